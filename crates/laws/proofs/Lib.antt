@@ -1,0 +1,6 @@
+pub mod Cases
+pub mod Tests
+pub mod Counting
+pub mod Lists
+pub mod Occurring
+pub mod Checks

@@ -1,0 +1,5 @@
+-- Words that the definitions of all crates are made of.
+pub mod Tests
+pub mod Counting
+pub mod Lists
+pub mod Checks

@@ -1,0 +1,1 @@
+// The shared mathematics: definitions in specs/, laws about them in proofs/, and no code.
