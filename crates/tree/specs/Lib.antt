@@ -1,0 +1,3 @@
+-- What a finished search leaves: a tree with its back lines, the returns of a line, and its low.
+pub mod Tree
+pub mod Returns
