@@ -4,3 +4,4 @@ pub mod Counting
 pub mod Lists
 pub mod Occurring
 pub mod Checks
+pub mod Filling
