@@ -4,3 +4,5 @@ pub mod Counting
 pub mod Lists
 pub mod Occurring
 pub mod Checks
+pub mod Greatest
+pub mod Wherever
