@@ -17,7 +17,7 @@ use Rattle.tree.specs.Tree.{Tree}
 use Rattle.tree.specs.Returns.{end, returnb, returns, low}
 use Rattle.tree.proofs.Tree.{Line, BackLine, Return, Searched}
 use Rattle.tree.proofs.Returns.{return-yes, return-of, in-returns, returned, low-least, low-has, return-self, return-back}
-use Rattle.fork.specs.Ends.{high, more, highestb, lowestb, top, bottom}
+use Rattle.fork.specs.Ends.{Highest, Lowest, high, more, highestb, lowestb, top, bottom}
 
 module _ (S : Tree) where
   -- High
@@ -65,21 +65,21 @@ module _ (S : Tree) where
 
   -- Top and bottom
 
-  pub highest-yes : (f b : ℕ) → Return S f b → end S b ≡ high S f → highestb S f b ≡ true
+  pub highest-yes : (f b : ℕ) → Highest S f b → highestb S f b ≡ true
   unfolding highestb
-  highest-yes f b r e = both-yes (return-yes S f b r) (eq-eqb _ _ e)
+  highest-yes f b r = both-yes (return-yes S f b (r .return)) (eq-eqb _ _ (r .at-high))
 
-  pub highest-of : (f b : ℕ) → b < S .lines → highestb S f b ≡ true → Return S f b × (end S b ≡ high S f)
+  pub highest-of : (f b : ℕ) → b < S .lines → highestb S f b ≡ true → Highest S f b
   unfolding highestb
-  highest-of f b h t = let q = both-of t in (return-of S f b h (q .0), eqb-true _ _ (q .1))
+  highest-of f b h t = let q = both-of t in record { return = return-of S f b h (q .0); at-high = eqb-true _ _ (q .1) }
 
-  pub lowest-yes : (f b : ℕ) → Return S f b → end S b ≡ low S f → lowestb S f b ≡ true
+  pub lowest-yes : (f b : ℕ) → Lowest S f b → lowestb S f b ≡ true
   unfolding lowestb
-  lowest-yes f b r e = both-yes (return-yes S f b r) (eq-eqb _ _ e)
+  lowest-yes f b r = both-yes (return-yes S f b (r .return)) (eq-eqb _ _ (r .at-low))
 
-  pub lowest-of : (f b : ℕ) → b < S .lines → lowestb S f b ≡ true → Return S f b × (end S b ≡ low S f)
+  pub lowest-of : (f b : ℕ) → b < S .lines → lowestb S f b ≡ true → Lowest S f b
   unfolding lowestb
-  lowest-of f b h t = let q = both-of t in (return-of S f b h (q .0), eqb-true _ _ (q .1))
+  lowest-of f b h t = let q = both-of t in record { return = return-of S f b h (q .0); at-low = eqb-true _ _ (q .1) }
 
   -- top is the first of the returns that end highest, bottom of those that end lowest
   pub top-first : (f b : ℕ) → Return S f b → First (highestb S f) (S .lines) (top S f)
@@ -88,7 +88,7 @@ module _ (S : Tree) where
       let q = high-has f b r in
       cases (least-cases (highestb S f) (S .lines))
       (λ z. z)
-      (λ none. true-false (highest-yes f (q .0) (q .1) (q .2)) (none .1 (q .0) (q .1 .is-back .0 .below)))
+      (λ none. true-false (highest-yes f (q .0) (record { return = q .1; at-high = q .2 })) (none .1 (q .0) (q .1 .is-back .0 .below)))
 
   pub bottom-first : (f b : ℕ) → Return S f b → First (lowestb S f) (S .lines) (bottom S f)
   unfolding bottom
@@ -96,14 +96,14 @@ module _ (S : Tree) where
       let q = low-has S f b r in
       cases (least-cases (lowestb S f) (S .lines))
       (λ z. z)
-      (λ none. true-false (lowest-yes f (q .0) (q .1) (q .2)) (none .1 (q .0) (q .1 .is-back .0 .below)))
+      (λ none. true-false (lowest-yes f (q .0) (record { return = q .1; at-low = q .2 })) (none .1 (q .0) (q .1 .is-back .0 .below)))
 
-  pub top-is : (f b : ℕ) → Return S f b → Return S f (top S f) × (end S (top S f) ≡ high S f)
+  pub top-is : (f b : ℕ) → Return S f b → Highest S f (top S f)
   top-is f b r = let z = top-first f b r in highest-of f (top S f) (z .below) (z .passes)
 
-  pub bottom-is : (f b : ℕ) → Return S f b → Return S f (bottom S f) × (end S (bottom S f) ≡ low S f)
+  pub bottom-is : (f b : ℕ) → Return S f b → Lowest S f (bottom S f)
   bottom-is f b r = let z = bottom-first f b r in lowest-of f (bottom S f) (z .below) (z .passes)
 
 -- a back line is its own top
 pub top-back : (S : Tree) → Searched S → (f : ℕ) → BackLine S f → top S f ≡ f
-top-back S X f l = return-back S X f (top S f) (l .1) (top-is S f f (return-self S X f l) .0)
+top-back S X f l = return-back S X f (top S f) (l .1) (top-is S f f (return-self S X f l) .return)

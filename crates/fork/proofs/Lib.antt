@@ -1,3 +1,4 @@
 pub mod Ends
 pub mod Rule
 pub mod Named
+pub mod Aligning

@@ -14,8 +14,8 @@ use Rattle.tree.specs.Tree.{Tree}
 use Rattle.tree.specs.Returns.{end, backb, returnb, low}
 use Rattle.tree.proofs.Tree.{Line, TreeLine, BackLine, Return, Leaves}
 use Rattle.tree.proofs.Returns.{return-yes, return-of}
-use Rattle.fork.specs.Fork.{Fork, Group, Legal, Aligned, Same, Different, forkb, groupb, sameb, differentb, levelb, wherever, legalb, alignedb, right}
-use Rattle.fork.specs.Ends.{lowestb}
+use Rattle.fork.specs.Fork.{Fork, Group, Legal, Aligned, Same, Different, Level, forkb, groupb, sameb, differentb, levelb, wherever, legalb, alignedb, right}
+use Rattle.fork.specs.Ends.{Lowest, lowestb}
 use Rattle.fork.proofs.Ends.{lowest-yes, lowest-of}
 
 -- Wherever p holds, q holds
@@ -64,6 +64,9 @@ module _ (S : Tree) where
 
   pub in-group : (f g b : ℕ) → Group S f g b → b < S .lines
   in-group f g b k = k .return .is-back .0 .below
+
+  pub in-lowest : (t b : ℕ) → Lowest S t b → b < S .lines
+  in-lowest t b k = k .return .is-back .0 .below
 
   -- Pairs
 
@@ -114,20 +117,28 @@ module _ (S : Tree) where
         second = group-of (g .0) (f .0) c hc (r .1);
       }
 
-  pub level-yes : (t b c : ℕ) → TreeLine S t → Return S t b → Return S t c → end S b ≡ low S t → end S c ≡ low S t → levelb S b c ≡ true
+  pub level-yes : (b c : ℕ) → Level S b c → levelb S b c ≡ true
   unfolding levelb
-  level-yes t b c l rb rc eb ec =
-      any-yes _ (S .lines) t (l .0 .below) (both-yes (both-yes (l .0 .yes) (l .1)) (both-yes (lowest-yes S t b rb eb) (lowest-yes S t c rc ec)))
+  level-yes b c s =
+      both-yes (ap not (ne-eqb b c (s .apart)))
+      (any-yes _ (S .lines) (s .through) (s .tree .0 .below)
+      (both-yes (both-yes (s .tree .0 .yes) (s .tree .1)) (both-yes (lowest-yes S (s .through) b (s .first)) (lowest-yes S (s .through) c (s .second)))))
 
-  pub level-of : (b c : ℕ) → b < S .lines → c < S .lines → levelb S b c ≡ true
-      → (t : ℕ) × TreeLine S t × (Return S t b × (end S b ≡ low S t)) × (Return S t c × (end S c ≡ low S t))
+  pub level-of : (b c : ℕ) → b < S .lines → c < S .lines → levelb S b c ≡ true → Level S b c
   unfolding levelb
   level-of b c hb hc e =
-      let t = any-of _ (S .lines) e in
+      let p = both-of e in
+      let t = any-of _ (S .lines) (p .1) in
       let q = both-of (t .2) in
       let l = both-of (q .0) in
       let r = both-of (q .1) in
-      (t .0, (record { below = t .1; yes = l .0 }, l .1), lowest-of S (t .0) b hb (r .0), lowest-of S (t .0) c hc (r .1))
+      record {
+        through = t .0;
+        tree = (record { below = t .1; yes = l .0 }, l .1);
+        first = lowest-of S (t .0) b hb (r .0);
+        second = lowest-of S (t .0) c hc (r .1);
+        apart = eqb-false b c (not-true _ (p .0));
+      }
 
   pub back-yes : (b : ℕ) → BackLine S b → backb S b ≡ true
   back-yes b l = both-yes (l .0 .yes) (ap not (l .1))
@@ -174,22 +185,28 @@ module _ (S : Tree) where
         (λ b c s.
         eqb-false _ _ (not-true _ (wherever-of (differentb S) _ (S .lines) (q .1) b c (in-group _ _ b (s .first)) (in-group _ _ c (s .second)) (different-yes b c s))))
 
+    pub aligned-level : Aligned S side → (b c : ℕ) → Level S b c → side b ≡ side c
+    aligned-level A b c s = A .lined (s .through) b c (s .tree) (s .first) (s .second)
+
+    pub aligned-by : Legal S side → ((b c : ℕ) → Level S b c → side b ≡ side c) → Aligned S side
+    aligned-by L level =
+        record {
+          legal = L;
+          lined = λ t b c l p q. cases (eq-or b c) (λ e. ap side e) (λ d. level b c (record { through = t; tree = l; first = p; second = q; apart = d }));
+        }
+
     pub aligned-yes : Aligned S side → alignedb S side ≡ true
     unfolding alignedb
     aligned-yes A =
-        both-yes (legal-yes (A .legal))
-        (wherever-yes (levelb S) _ (S .lines)
-        (λ b c hb hc t. let q = level-of b c hb hc t in eq-eqb _ _ (A .lined (q .0) b c (q .1) (q .2 .0) (q .3 .0) (q .2 .1) (q .3 .1))))
+        both-yes (legal-yes (A .legal)) (wherever-yes (levelb S) _ (S .lines) (λ b c hb hc t. eq-eqb _ _ (aligned-level A b c (level-of b c hb hc t))))
 
     pub aligned-of : alignedb S side ≡ true → Aligned S side
     unfolding alignedb
     aligned-of e =
         let p = both-of e in
-        record {
-          legal = legal-of (p .0);
-          lined = λ t b c l rb rc eb ec.
-              eqb-true _ _ (wherever-of (levelb S) _ (S .lines) (p .1) b c (rb .is-back .0 .below) (rc .is-back .0 .below) (level-yes t b c l rb rc eb ec));
-        }
+        aligned-by (legal-of (p .0))
+        (λ b c s.
+        eqb-true _ _ (wherever-of (levelb S) _ (S .lines) (p .1) b c (in-lowest _ b (s .first)) (in-lowest _ c (s .second)) (level-yes b c s)))
 
     -- a choice is legal or it is not, aligned or not
     pub legal-or : Legal S side ⊎ (Legal S side → ⊥)

@@ -7,7 +7,7 @@ use Rattle.laws.specs.Tests.{both, either, all, any}
 use Rattle.tree.specs.Tree.{Tree}
 use Rattle.tree.specs.Returns.{end, backb, returnb, low}
 use Rattle.tree.proofs.Tree.{Line, TreeLine, BackLine, Return}
-use Rattle.fork.specs.Ends.{lowestb}
+use Rattle.fork.specs.Ends.{Lowest, lowestb}
 
 -- The two sides.
 abbrev pub left : ℕ
@@ -37,7 +37,7 @@ pub record Legal (S : Tree) (side : ℕ → ℕ) : Type 0 where
 -- It is aligned where moreover, for each tree line, all returns that end at its low are on one side.
 pub record Aligned (S : Tree) (side : ℕ → ℕ) : Type 0 where
   pub legal : Legal S side
-  pub lined : (t b c : ℕ) → TreeLine S t → Return S t b → Return S t c → end S b ≡ low S t → end S c ≡ low S t → side b ≡ side c
+  pub lined : (t b c : ℕ) → TreeLine S t → Lowest S t b → Lowest S t c → side b ≡ side c
 
 -- The rule by pairs: two lines of one group are to have the same side, one line of each group different sides. One pair may have both.
 pub record Same (S : Tree) (b c : ℕ) : Type 0 where
@@ -55,7 +55,15 @@ pub record Different (S : Tree) (b c : ℕ) : Type 0 where
   pub first : Group S one two b
   pub second : Group S two one c
 
--- A constraint of a kind: 0 is the same side, 1 different sides.
+-- Two of the returns that end at the low of one tree line.
+pub record Level (S : Tree) (b c : ℕ) : Type 0 where
+  pub through : ℕ
+  pub tree : TreeLine S through
+  pub first : Lowest S through b
+  pub second : Lowest S through c
+  pub apart : b ≡ c → ⊥
+
+-- A fork constraint of a kind: 0 is the same side, 1 different sides.
 pub data Constraint (S : Tree) (b c : ℕ) : ℕ → Type 0 where
   equal : Same S b c → Constraint S b c 0
   opposed : Different S b c → Constraint S b c 1
@@ -77,7 +85,7 @@ differentb S b c = any (λ f. any (λ g. both (forkb S f g) (both (groupb S f g 
 
 -- Some tree line has b and c among its returns that end at its low.
 unfoldable pub levelb : Tree → ℕ → ℕ → Bool
-levelb S b c = any (λ t. both (both (S .live t) (S .tree t)) (both (lowestb S t b) (lowestb S t c))) (S .lines)
+levelb S b c = both (not (eqb b c)) (any (λ t. both (both (S .live t) (S .tree t)) (both (lowestb S t b) (lowestb S t c))) (S .lines))
 
 -- Any two lines that p holds of, q holds of.
 unfoldable pub wherever : (ℕ → ℕ → Bool) → (ℕ → ℕ → Bool) → ℕ → Bool

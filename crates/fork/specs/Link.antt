@@ -11,7 +11,7 @@ use Rattle.laws.specs.Lists.{keep, upto}
 use Rattle.tree.specs.Tree.{Tree}
 use Rattle.tree.specs.Returns.{end, returnb, low}
 use Rattle.tree.proofs.Tree.{TreeLine, BackLine, Return}
-use Rattle.fork.specs.Ends.{high, top, bottom}
+use Rattle.fork.specs.Ends.{Lowest, high, top, bottom}
 use Rattle.fork.specs.Fork.{Fork, forkb, right}
 
 -- The least low of the other lines that leave where f leaves; where there are none, the height of that vertex.
@@ -38,7 +38,7 @@ overlapb S f g = both (ltb (low S g) (high S f)) (ltb (low S f) (high S g))
 pub data Link (S : Tree) : ℕ → ℕ → ℕ → Type 0 where
   within : (f b : ℕ) → TreeLine S f → Held S f b → (b ≡ top S f → ⊥) → Link S b (top S f) 0
   across : (f g : ℕ) → Fork S f g → Overlap S f g → Link S (top S f) (top S g) 1
-  along : (f b : ℕ) → TreeLine S f → Return S f b → end S b ≡ low S f → (b ≡ bottom S f → ⊥) → Link S b (bottom S f) 0
+  along : (f b : ℕ) → TreeLine S f → Lowest S f b → (b ≡ bottom S f → ⊥) → Link S b (bottom S f) 0
   turned : {b c k : ℕ} → Link S b c k → Link S c b k
 
 -- What a choice obeys that obeys every link, link by link.
@@ -46,4 +46,4 @@ pub record Obeys (S : Tree) (side : ℕ → ℕ) : Type 0 where
   pub bits : (b : ℕ) → BackLine S b → side b ≤ right
   pub within : (f b : ℕ) → TreeLine S f → Held S f b → side b ≡ side (top S f)
   pub across : (f g : ℕ) → Fork S f g → Overlap S f g → side (top S f) ≡ side (top S g) → ⊥
-  pub along : (f b : ℕ) → TreeLine S f → Return S f b → end S b ≡ low S f → side b ≡ side (bottom S f)
+  pub along : (f b : ℕ) → TreeLine S f → Lowest S f b → side b ≡ side (bottom S f)
