@@ -165,6 +165,17 @@ module _ (S : Tree) where
           other = λ f g b c k p q. other b c (record { one = f; two = g; fork = k; first = p; second = q });
         }
 
+    -- the rule in the shape of two lines that leave a vertex
+    pub same-at : Legal S side → (v f g b c : ℕ) → Leaves S v f → Leaves S v g → (f ≡ g → ⊥) → Return S f b → Return S f c
+        → low S g < end S b → low S g < end S c → side b ≡ side c
+    same-at L v f g b c lf lg d rb rc hb hc =
+        L .same f g b c (fork-at v f g lf lg d) (record { return = rb; higher = hb }) (record { return = rc; higher = hc })
+
+    pub other-at : Legal S side → (v f g b c : ℕ) → Leaves S v f → Leaves S v g → (f ≡ g → ⊥) → Return S f b → Return S g c
+        → low S g < end S b → low S f < end S c → side b ≡ side c → ⊥
+    other-at L v f g b c lf lg d rb rc hb hc =
+        L .other f g b c (fork-at v f g lf lg d) (record { return = rb; higher = hb }) (record { return = rc; higher = hc })
+
     -- .. and by tests
 
     pub legal-yes : Legal S side → legalb S side ≡ true
