@@ -6,3 +6,4 @@ pub mod Occurring
 pub mod Checks
 pub mod Greatest
 pub mod Wherever
+pub mod Running
