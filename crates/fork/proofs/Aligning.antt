@@ -2,19 +2,19 @@
 -- low is in a group, all of them are in that group; so what alignment asks of two lines is a fork constraint already, or both are free. Hence also
 -- a ring of constraints and alignment pairs with a "different" in it is a ring of fork constraints alone.
 use mathlib.Core.Bool.{Bool, true, false, cond}
-use mathlib.Core.Logic.{_⊎_, inl, inr, _≢_}
-use mathlib.Core.Path.{_≡_, refl, sym, _∙_, ap, subst}
-use Prim.Native.Nat.{ℕ, zero, suc, _≤_, _<_}
+use mathlib.Core.Logic.{_⊎_, inl, inr}
+use mathlib.Core.Path.{_≡_, sym, _∙_, ap, subst}
+use Prim.Native.Nat.{ℕ, _≤_, _<_}
 use native.Mathlib.Omega.{arith}
 use Rattle.laws.specs.Tests.{both, any}
-use Rattle.laws.proofs.Cases.{cases, bool, eq-or, lt-or, true-false}
+use Rattle.laws.proofs.Cases.{cases, bool, lt-or, true-false}
 use Rattle.laws.proofs.Tests.{both-yes, both-of, any-of, any-yes}
 use Rattle.tree.specs.Tree.{Tree}
 use Rattle.tree.specs.Returns.{end, low}
-use Rattle.tree.proofs.Tree.{Line, TreeLine, BackLine, Above, Searched, Return}
+use Rattle.tree.proofs.Tree.{TreeLine, Above, Searched, Return}
 use Rattle.tree.proofs.Returns.{return-above, low-least, low-some}
 use Rattle.fork.specs.Ends.{Lowest}
-use Rattle.fork.specs.Fork.{left, right, Fork, Group, Legal, Aligned, Same, Different, Level, Constraint, equal, opposed, forkb, groupb}
+use Rattle.fork.specs.Fork.{left, Fork, Group, Legal, Aligned, Same, Level, Constraint, same-side, other-side, forkb, groupb}
 use Rattle.fork.proofs.Rule.{fork-yes, fork-of, fork-turned, group-yes, group-of, in-lowest}
 
 -- b is in some group
@@ -56,11 +56,11 @@ module _ (S : Tree) where
 
   -- both lines of a constraint are in a group
   pub bound-ends : (b c k : ℕ) → Constraint S b c k → Bound S b × Bound S c
-  bound-ends b c k (equal s) = (
+  bound-ends b c k (same-side s) = (
     record { one = s .one; two = s .two; fork = s .fork; group = s .first },
     record { one = s .one; two = s .two; fork = s .fork; group = s .second },
   )
-  bound-ends b c k (opposed s) = (
+  bound-ends b c k (other-side s) = (
     record { one = s .one; two = s .two; fork = s .fork; group = s .first },
     record { one = s .two; two = s .one; fork = fork-turned S (s .one) (s .two) (s .fork); group = s .second },
   )

@@ -1,21 +1,19 @@
 -- The highest and the lowest ends of a line's returns: high is the greatest end and top has it, low is the least and bottom has it. By cases on
 -- the first line that passes the test.
 use mathlib.Core.Bool.{Bool, true, false}
-use mathlib.Core.List.{List}
-use mathlib.Core.Logic.{_⊎_, inl, inr}
-use mathlib.Core.Path.{_≡_, refl, sym, _∙_}
+use mathlib.Core.Path.{_≡_}
 use Prim.Native.Nat.{ℕ, _≤_, _<_}
 use native.Mathlib.Omega.{arith}
-use lib.Dec.{eqb, ltb}
+use lib.Dec.{ltb}
 use borrow.Author.Tests.{eq-eqb, eqb-true, lt-ltb, le-ltb}
 use Rattle.laws.specs.Tests.{least}
 use Rattle.laws.specs.Counting.{bit}
-use Rattle.laws.proofs.Cases.{cases, eq-or, lt-or, true-false}
+use Rattle.laws.proofs.Cases.{cases, lt-or, true-false}
 use Rattle.laws.proofs.Tests.{both-yes, both-of, First, least-cases}
 use Rattle.laws.proofs.Greatest.{max-le, max-in}
 use Rattle.tree.specs.Tree.{Tree}
-use Rattle.tree.specs.Returns.{end, returnb, returns, low}
-use Rattle.tree.proofs.Tree.{Line, BackLine, Return, Searched}
+use Rattle.tree.specs.Returns.{end, returns, low}
+use Rattle.tree.proofs.Tree.{BackLine, Return, Searched}
 use Rattle.tree.proofs.Returns.{return-yes, return-of, in-returns, returned, low-least, low-has, return-self, return-back}
 use Rattle.fork.specs.Ends.{Highest, Lowest, high, more, highestb, lowestb, top, bottom}
 

@@ -1,31 +1,23 @@
 -- How a program finds low, high, top, bottom and rival: each as the outcome of a loop over the lines. And which lines a back line is a return of:
 -- itself, and the parent lines on its way down as far as they leave vertices higher than its end.
-use mathlib.Core.Bool.{Bool, true, false}
-use mathlib.Core.Logic.{_⊎_, inl, inr, _≢_}
+use mathlib.Core.Bool.{true, false}
+use mathlib.Core.Logic.{inr}
 use mathlib.Core.Path.{_≡_, refl, sym, _∙_, ap, subst}
 use Prim.Native.Nat.{ℕ, suc, _≤_, _<_}
 use native.Mathlib.Omega.{arith}
-use lib.Dec.{ltb}
 use borrow.Author.Tests.{lt-ltb, le-ltb, ltb-true, ltb-false}
 use Rattle.laws.specs.Running.{minimum, maximum, best}
-use Rattle.laws.proofs.Cases.{cases, bool, eq-or, true-false}
-use Rattle.laws.proofs.Tests.{First, least-is, least-none}
-use Rattle.laws.proofs.Running.{minimum-is, maximum-is, Best, best-is}
+use Rattle.laws.proofs.Cases.{cases, bool, true-false}
+use Rattle.laws.proofs.Tests.{least-is, least-none}
+use Rattle.laws.proofs.Running.{minimum-is, maximum-is, best-is}
 use Rattle.tree.specs.Tree.{Tree}
 use Rattle.tree.specs.Returns.{end, returnb, returns, low}
-use Rattle.tree.proofs.Tree.{Line, TreeLine, BackLine, Above, Searched, Return}
+use Rattle.tree.proofs.Tree.{TreeLine, BackLine, Above, Searched, Return}
 use Rattle.tree.proofs.Returns.{return-yes, return-of, low-least, low-has}
-use Rattle.fork.specs.Ends.{Highest, Lowest, high, highestb, lowestb, top, bottom}
+use Rattle.fork.specs.Ends.{high, highestb, lowestb, top, bottom}
 use Rattle.fork.specs.Fork.{forkb}
-use Rattle.fork.specs.Link.{rival}
+use Rattle.fork.specs.Link.{rival, ends-higher, ends-lower}
 use Rattle.fork.proofs.Ends.{high-most, high-has, highest-yes, highest-of, lowest-yes, lowest-of}
-
--- line i ends higher than line k, or lower
-unfoldable pub ends-higher : Tree → ℕ → ℕ → Bool
-ends-higher S i k = ltb (end S k) (end S i)
-
-unfoldable pub ends-lower : Tree → ℕ → ℕ → Bool
-ends-lower S i k = ltb (end S i) (end S k)
 
 module _ (S : Tree) where
   pub low-found : (f : ℕ) → low S f ≡ minimum (returnb S f) (end S) (S .height (S .source f)) (S .lines)
@@ -62,9 +54,6 @@ module _ (S : Tree) where
   unfolding ends-lower ends-higher
   lower-higher i k = refl
 
-  no-return : (f b : ℕ) → b < S .lines → returnb S f b ≡ false → Return S f b → ⊥
-  no-return f b h n r = true-false (return-yes S f b r) n
-
   pub top-found : (f : ℕ) → top S f ≡ best (returnb S f) (ends-higher S) (S .lines) (S .lines)
   unfolding top
   top-found f =
@@ -91,7 +80,7 @@ module _ (S : Tree) where
       }))
       (λ r.
       least-none (highestb S f) (S .lines)
-      (λ j h. cases (bool (highestb S f j)) (λ t. absurd (no-return f j h (r .1 j h) (highest-of S f j h t .return))) (λ n. n))
+      (λ j h. cases (bool (highestb S f j)) (λ t. true-false (return-yes S f j (highest-of S f j h t .return)) (r .1 j h)) (λ n. n))
       ∙ sym (r .0))
 
   pub bottom-found : (f : ℕ) → bottom S f ≡ best (returnb S f) (ends-lower S) (S .lines) (S .lines)
@@ -125,7 +114,7 @@ module _ (S : Tree) where
       }))
       (λ r.
       least-none (lowestb S f) (S .lines)
-      (λ j h. cases (bool (lowestb S f j)) (λ t. absurd (no-return f j h (r .1 j h) (lowest-of S f j h t .return))) (λ n. n))
+      (λ j h. cases (bool (lowestb S f j)) (λ t. true-false (return-yes S f j (lowest-of S f j h t .return)) (r .1 j h)) (λ n. n))
       ∙ sym (r .0))
 
 -- On the way down from a back line

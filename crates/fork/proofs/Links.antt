@@ -1,26 +1,25 @@
 -- The links say what the fork rule and alignment say: a choice obeys every link exactly when it is aligned. Each line of a group has the side of the
 -- line's top return, since the top is in every group that anything of the line is in; so two opposed groups are told by their tops.
-use mathlib.Core.Bool.{Bool, true, false}
-use mathlib.Core.List.{List, map, foldr}
+use mathlib.Core.Bool.{true}
+use mathlib.Core.List.{List}
 use mathlib.Core.Logic.{_⊎_, inl, inr, _≢_}
-use mathlib.Core.Path.{_≡_, refl, sym, _∙_, ap}
+use mathlib.Core.Path.{_≡_, sym, _∙_, ap}
 use Prim.Native.Nat.{ℕ, _+_, _%_, _≤_, _<_}
 use native.Mathlib.Omega.{arith}
-use lib.Dec.{ltb}
 use borrow.Author.Tests.{lt-ltb, ltb-true}
 use Rattle.laws.specs.Lists.{from, keep}
 use Rattle.laws.specs.Counting.{many}
-use Rattle.laws.proofs.Cases.{cases, bool, eq-or, lt-or, true-false}
+use Rattle.laws.proofs.Cases.{cases, bool, eq-or}
 use Rattle.laws.proofs.Tests.{both-yes, both-of}
 use Rattle.laws.proofs.Lists.{All, all-keep, all-kept, all-map, all-both, all-many, from-in, from-all, min-le, min-in}
 use Rattle.laws.proofs.Occurring.{many-keep-yes}
 use Rattle.tree.specs.Tree.{Tree}
 use Rattle.tree.specs.Returns.{end, low}
-use Rattle.tree.proofs.Tree.{Line, TreeLine, BackLine, Searched, Return}
-use Rattle.tree.proofs.Returns.{return-yes, return-of, low-least, low-has, return-self, return-back}
-use Rattle.fork.specs.Ends.{Highest, Lowest, high, top, bottom}
-use Rattle.fork.specs.Fork.{right, Fork, Group, Legal, Aligned, Same, Different, Level, forkb}
-use Rattle.fork.specs.Link.{rival, Held, heldb, Overlap, overlapb, Link, within, across, along, turned, Obeys}
+use Rattle.tree.proofs.Tree.{Line, TreeLine, BackLine, Searched}
+use Rattle.tree.proofs.Returns.{return-yes, return-of, low-has, return-self, return-back}
+use Rattle.fork.specs.Ends.{Lowest, high, top, bottom}
+use Rattle.fork.specs.Fork.{right, Fork, Group, Aligned, Same, Different, Level, forkb}
+use Rattle.fork.specs.Link.{rival, Held, heldb, Overlap, overlapb, Link, to-top, tops, to-bottom, turned, Obeys}
 use Rattle.fork.proofs.Ends.{high-most, high-has, high-some, top-is, bottom-is, top-back}
 use Rattle.fork.proofs.Rule.{fork-yes, fork-of, fork-turned, legal-same, legal-different}
 
@@ -84,8 +83,8 @@ module _ (S : Tree) where
 
   -- Each link is a constraint, or an alignment pair
 
-  pub within-same : (f b : ℕ) → TreeLine S f → Held S f b → (b ≡ top S f → ⊥) → Same S b (top S f)
-  within-same f b l m d =
+  pub top-same : (f b : ℕ) → TreeLine S f → Held S f b → (b ≡ top S f → ⊥) → Same S b (top S f)
+  top-same f b l m d =
       let g = held-fork f b (l .0) m in
       let t = top-is S f b (m .return) in
       record {
@@ -104,18 +103,18 @@ module _ (S : Tree) where
       let t = top-is S f (r .0) (r .1) in
       record { return = t .return; higher = omega (arith, t .at-high, o .over) }
 
-  pub across-different : (f g : ℕ) → Fork S f g → Overlap S f g → Different S (top S f) (top S g)
-  across-different f g k o =
+  pub tops-different : (f g : ℕ) → Fork S f g → Overlap S f g → Different S (top S f) (top S g)
+  tops-different f g k o =
       record { one = f; two = g; fork = k; first = over-group f g o; second = over-group g f (overlap-turned f g o) }
 
-  pub along-level : (f b : ℕ) → TreeLine S f → Lowest S f b → (b ≡ bottom S f → ⊥) → Level S b (bottom S f)
-  along-level f b l m d = record { through = f; tree = l; first = m; second = bottom-is S f b (m .return); apart = d }
+  pub bottom-level : (f b : ℕ) → TreeLine S f → Lowest S f b → (b ≡ bottom S f → ⊥) → Level S b (bottom S f)
+  bottom-level f b l m d = record { through = f; tree = l; first = m; second = bottom-is S f b (m .return); apart = d }
 
   -- the ends of a link are back lines
   pub link-ends : {b c k : ℕ} → Link S b c k → BackLine S b × BackLine S c
-  link-ends (within f b l m d) = (m .return .is-back, top-is S f b (m .return) .return .is-back)
-  link-ends (across f g k o) = (over-group f g o .return .is-back, over-group g f (overlap-turned f g o) .return .is-back)
-  link-ends (along f b l m d) = (m .return .is-back, bottom-is S f b (m .return) .return .is-back)
+  link-ends (to-top f b l m d) = (m .return .is-back, top-is S f b (m .return) .return .is-back)
+  link-ends (tops f g k o) = (over-group f g o .return .is-back, over-group g f (overlap-turned f g o) .return .is-back)
+  link-ends (to-bottom f b l m d) = (m .return .is-back, bottom-is S f b (m .return) .return .is-back)
   link-ends (turned l) = let e = link-ends l in (e .1, e .0)
 
   module _ (side : ℕ → ℕ) where
@@ -123,37 +122,37 @@ module _ (S : Tree) where
     aligned-obeys A =
         record {
           bits = A .legal .bits;
-          within = λ f b l m. cases (eq-or b (top S f)) (λ e. ap side e) (λ d. legal-same S side (A .legal) b (top S f) (within-same f b l m d));
-          across = λ f g k o. legal-different S side (A .legal) (top S f) (top S g) (across-different f g k o);
-          along = λ f b l m. A .lined f b (bottom S f) l m (bottom-is S f b (m .return));
+          as-top = λ f b l m. cases (eq-or b (top S f)) (λ e. ap side e) (λ d. legal-same S side (A .legal) b (top S f) (top-same f b l m d));
+          tops-apart = λ f g k o. legal-different S side (A .legal) (top S f) (top S g) (tops-different f g k o);
+          as-bottom = λ f b l m. A .lined f b (bottom S f) l m (bottom-is S f b (m .return));
         }
 
     -- By parity
 
     pub obeys-link : Obeys S side → {b c k : ℕ} → Link S b c k → (side b + side c + k) % 2 ≡ 0
-    obeys-link O (within f b l m d) = let e = O .within f b l m in omega arith
-    obeys-link O (across f g k o) =
-        let e : side (top S f) ≢ side (top S g) = O .across f g k o in
-        let l = link-ends (across f g k o) in
+    obeys-link O (to-top f b l m d) = let e = O .as-top f b l m in omega arith
+    obeys-link O (tops f g k o) =
+        let e : side (top S f) ≢ side (top S g) = O .tops-apart f g k o in
+        let l = link-ends (tops f g k o) in
         omega (arith, O .bits (top S f) (l .0), O .bits (top S g) (l .1))
-    obeys-link O (along f b l m d) = let e = O .along f b l m in omega arith
+    obeys-link O (to-bottom f b l m d) = let e = O .as-bottom f b l m in omega arith
     obeys-link O (turned l) = omega (arith, obeys-link O l)
 
     pub links-obeyed : ((b : ℕ) → BackLine S b → side b ≤ right) → ((b c k : ℕ) → Link S b c k → (side b + side c + k) % 2 ≡ 0) → Obeys S side
     links-obeyed bits keeps =
         record {
           bits = bits;
-          within = λ f b l m.
+          as-top = λ f b l m.
               cases (eq-or b (top S f)) (λ e. ap side e)
               (λ d.
-              let q = within f b l m d in
+              let q = to-top f b l m d in
               let e = link-ends q in
               omega (arith, keeps b (top S f) 0 q, bits b (e .0), bits (top S f) (e .1)));
-          across = λ f g k o e. omega (arith, keeps (top S f) (top S g) 1 (across f g k o));
-          along = λ f b l m.
+          tops-apart = λ f g k o e. omega (arith, keeps (top S f) (top S g) 1 (tops f g k o));
+          as-bottom = λ f b l m.
               cases (eq-or b (bottom S f)) (λ e. ap side e)
               (λ d.
-              let q = along f b l m d in
+              let q = to-bottom f b l m d in
               let e = link-ends q in
               omega (arith, keeps b (bottom S f) 0 q, bits b (e .0), bits (bottom S f) (e .1)));
         }
@@ -163,7 +162,7 @@ module _ (S : Tree) (X : Searched S) (side : ℕ → ℕ) (O : Obeys S side) whe
   side-top : (f g b : ℕ) → Fork S f g → Group S f g b → side b ≡ side (top S f)
   side-top f g b k m =
       cases (bool (S .tree f))
-      (λ t. O .within f b (k .first, t) (held-group S f g b k m))
+      (λ t. O .as-top f b (k .first, t) (held-group S f g b k m))
       (λ n. ap side (return-back S X f b n (m .return) ∙ sym (top-back S X f (k .first, n))))
 
   pub obeys-aligned : Aligned S side
@@ -173,14 +172,14 @@ module _ (S : Tree) (X : Searched S) (side : ℕ → ℕ) (O : Obeys S side) whe
           bits = O .bits;
           same = λ f g b c k p q. side-top f g b k p ∙ sym (side-top f g c k q);
           other = λ f g b c k p q e.
-              O .across f g k
+              O .tops-apart f g k
               (record {
                 over = omega (arith, p .higher, high-most S f b (p .return));
                 under = omega (arith, q .higher, high-most S g c (q .return));
               })
               (sym (side-top f g b k p) ∙ e ∙ side-top g f c (fork-turned S f g k) q);
         };
-        lined = λ t b c l p q. O .along t b l p ∙ sym (O .along t c l q);
+        lined = λ t b c l p q. O .as-bottom t b l p ∙ sym (O .as-bottom t c l q);
       }
 
 -- A choice with sides for its back lines obeys every link exactly when it is aligned.

@@ -1,18 +1,16 @@
 -- Which pairs have a constraint: the same side, two that one tree line holds; different sides, two that come to one fork by different lines, and
 -- that fork is the only one.
-use mathlib.Core.Bool.{true, false}
-use mathlib.Core.Logic.{_⊎_, inl, inr}
-use mathlib.Core.Path.{_≡_, refl, sym, _∙_, ap, subst}
-use Prim.Native.Nat.{ℕ, suc, _≤_, _<_}
+use mathlib.Core.Bool.{true}
+use mathlib.Core.Path.{_≡_, sym, _∙_, ap, subst}
+use Prim.Native.Nat.{ℕ, _≤_, _<_}
 use native.Mathlib.Omega.{arith}
 use Rattle.laws.proofs.Cases.{cases, bool, lt-or}
 use Rattle.tree.specs.Tree.{Tree}
 use Rattle.tree.specs.Returns.{end, low}
 use Rattle.tree.proofs.Tree.{Line, TreeLine, Above, Searched, Return}
 use Rattle.tree.proofs.Returns.{return-above, return-back, one-way}
-use Rattle.fork.specs.Fork.{Fork, Group, Same, Different}
+use Rattle.fork.specs.Fork.{Fork, Same, Different}
 use Rattle.fork.specs.Link.{Held}
-use Rattle.fork.proofs.Rule.{fork-turned}
 use Rattle.fork.proofs.Links.{held-group, held-fork}
 
 module _ (S : Tree) where

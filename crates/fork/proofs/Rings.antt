@@ -1,23 +1,21 @@
 -- A ring of links with a "different" in it is a ring of fork constraints: a link is a constraint, or an alignment pair; and where a line is in a
 -- group, so is every line that is tied to it, so that going round from the "different" every alignment pair is a constraint too.
-use mathlib.Core.Logic.{_⊎_, inl, inr, _≢_}
-use mathlib.Core.Path.{_≡_, refl, sym, _∙_, ap, subst}
-use Prim.Native.Nat.{ℕ, zero, suc, _≤_, _<_}
+use mathlib.Core.Path.{_≡_, refl}
+use Prim.Native.Nat.{ℕ, zero, suc, _<_}
 use native.Mathlib.Omega.{arith}
 use Rattle.laws.proofs.Cases.{cases, lt-or}
 use Rattle.tree.specs.Tree.{Tree}
 use Rattle.tree.proofs.Tree.{Searched}
-use Rattle.fork.specs.Ends.{top, bottom}
-use Rattle.fork.specs.Fork.{Same, Different, Level, Constraint, equal, opposed}
-use Rattle.fork.specs.Link.{Link, within, across, along, turned}
+use Rattle.fork.specs.Fork.{Different, Level, Constraint, same-side, other-side}
+use Rattle.fork.specs.Link.{Link, to-top, tops, to-bottom, turned}
 use Rattle.fork.proofs.Rule.{fork-turned}
 use Rattle.fork.proofs.Aligning.{Bound, bound-ends, level-bound, level-turned, same-turned}
-use Rattle.fork.proofs.Links.{within-same, across-different, along-level}
+use Rattle.fork.proofs.Links.{top-same, tops-different, bottom-level}
 
 -- b and c are tied by a constraint, or by alignment
 pub data Tied (S : Tree) (b c : ℕ) : ℕ → Type 0 where
-  forked : {k : ℕ} → Constraint S b c k → Tied S b c k
-  aligned : Level S b c → Tied S b c 0
+  by-fork : {k : ℕ} → Constraint S b c k → Tied S b c k
+  by-level : Level S b c → Tied S b c 0
 
 module _ (S : Tree) (X : Searched S) where
   pub different-turned : (b c : ℕ) → Different S b c → Different S c b
@@ -25,23 +23,23 @@ module _ (S : Tree) (X : Searched S) where
       record { one = s .two; two = s .one; fork = fork-turned S (s .one) (s .two) (s .fork); first = s .second; second = s .first }
 
   pub constraint-turned : {b c k : ℕ} → Constraint S b c k → Constraint S c b k
-  constraint-turned {b} {c} (equal s) = equal (same-turned S X b c s)
-  constraint-turned {b} {c} (opposed s) = opposed (different-turned b c s)
+  constraint-turned {b} {c} (same-side s) = same-side (same-turned S X b c s)
+  constraint-turned {b} {c} (other-side s) = other-side (different-turned b c s)
 
   pub tied-turned : {b c k : ℕ} → Tied S b c k → Tied S c b k
-  tied-turned (forked s) = forked (constraint-turned s)
-  tied-turned {b} {c} (aligned s) = aligned (level-turned S X b c s)
+  tied-turned (by-fork s) = by-fork (constraint-turned s)
+  tied-turned {b} {c} (by-level s) = by-level (level-turned S X b c s)
 
   pub link-tied : {b c k : ℕ} → Link S b c k → Tied S b c k
-  link-tied (within f b l m d) = forked (equal (within-same S f b l m d))
-  link-tied (across f g k o) = forked (opposed (across-different S f g k o))
-  link-tied (along f b l m d) = aligned (along-level S f b l m d)
+  link-tied (to-top f b l m d) = by-fork (same-side (top-same S f b l m d))
+  link-tied (tops f g k o) = by-fork (other-side (tops-different S f g k o))
+  link-tied (to-bottom f b l m d) = by-level (bottom-level S f b l m d)
   link-tied (turned l) = tied-turned (link-tied l)
 
   -- from a line in a group every tie is a constraint, and leads to a line in a group
   pub tied-onward : {b c k : ℕ} → Bound S b → Tied S b c k → Constraint S b c k
-  tied-onward h (forked s) = s
-  tied-onward {b} {c} h (aligned s) = equal (level-bound S X b c s h)
+  tied-onward h (by-fork s) = s
+  tied-onward {b} {c} h (by-level s) = same-side (level-bound S X b c s h)
 
   pub bound-onward : {b c k : ℕ} → Bound S b → Tied S b c k → Bound S c
   bound-onward {b} {c} {k} h s = bound-ends S b c k (tied-onward h s) .1
@@ -51,8 +49,8 @@ module _ (S : Tree) (X : Searched S) where
 
   -- a tie that is not "same" is a constraint
   tied-other : {b c k : ℕ} → Tied S b c k → (k ≡ 0 → ⊥) → Constraint S b c k
-  tied-other (forked s) d = s
-  tied-other (aligned s) d = absurd (d refl)
+  tied-other (by-fork s) d = s
+  tied-other (by-level s) d = absurd (d refl)
 
   module _ (n : ℕ) (lines kinds : ℕ → ℕ)
       (step : (i : ℕ) → suc i < n → Tied S (lines i) (lines (suc i)) (kinds i))

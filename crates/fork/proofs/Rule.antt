@@ -1,21 +1,19 @@
 -- The tests of the fork rule say what its propositions say, both ways: pairs, legal, aligned. Each by reading the tests part by part.
-use mathlib.Core.Bool.{Bool, true, false, not}
+use mathlib.Core.Bool.{Bool, true, not}
 use mathlib.Core.Logic.{_⊎_, inl, inr}
-use mathlib.Core.Path.{_≡_, refl, sym, _∙_, ap}
+use mathlib.Core.Path.{_≡_, sym, _∙_, ap}
 use Prim.Native.Nat.{ℕ, _≤_, _<_}
-use native.Mathlib.Omega.{arith}
-use lib.Dec.{eqb, ltb, leb}
 use borrow.Author.Tests.{eq-eqb, ne-eqb, eqb-true, eqb-false, lt-ltb, ltb-true, leb-true, le-leb, not-true}
-use Rattle.laws.specs.Tests.{both, either, all, any}
+use Rattle.laws.specs.Tests.{both}
 use Rattle.laws.proofs.Cases.{cases, bool, eq-or, true-false}
 use Rattle.laws.proofs.Tests.{both-yes, both-of, all-of, all-yes, any-of, any-yes}
 use Rattle.laws.proofs.Wherever.{implies-of, implies-yes}
 use Rattle.tree.specs.Tree.{Tree}
-use Rattle.tree.specs.Returns.{end, backb, returnb, low}
-use Rattle.tree.proofs.Tree.{Line, TreeLine, BackLine, Return, Leaves}
+use Rattle.tree.specs.Returns.{end, backb, low}
+use Rattle.tree.proofs.Tree.{BackLine, Return, Leaves}
 use Rattle.tree.proofs.Returns.{return-yes, return-of}
 use Rattle.fork.specs.Fork.{Fork, Group, Legal, Aligned, Same, Different, Level, forkb, groupb, sameb, differentb, levelb, wherever, legalb, alignedb, right}
-use Rattle.fork.specs.Ends.{Lowest, lowestb}
+use Rattle.fork.specs.Ends.{Lowest}
 use Rattle.fork.proofs.Ends.{lowest-yes, lowest-of}
 
 -- Wherever p holds, q holds

@@ -1,6 +1,6 @@
 -- Where the returns of a line end. (docs/RULES.md, "The search" and "Clockwise order".)
 use mathlib.Core.Bool.{Bool}
-use mathlib.Core.List.{List, map, foldr}
+use mathlib.Core.List.{map, foldr}
 use mathlib.Core.Path.{_≡_}
 use Prim.Native.Nat.{ℕ, max}
 use lib.Dec.{eqb, ltb}

@@ -65,8 +65,8 @@ pub record Level (S : Tree) (b c : ℕ) : Type 0 where
 
 -- A fork constraint of a kind: 0 is the same side, 1 different sides.
 pub data Constraint (S : Tree) (b c : ℕ) : ℕ → Type 0 where
-  equal : Same S b c → Constraint S b c 0
-  opposed : Different S b c → Constraint S b c 1
+  same-side : Same S b c → Constraint S b c 0
+  other-side : Different S b c → Constraint S b c 1
 
 -- The same as tests.
 

@@ -2,7 +2,7 @@
 -- oppose each other by one line of each, and the lowest returns of a tree line to one of them. (What the program goes by; that it may is shown
 -- in proofs/Links.antt.)
 use mathlib.Core.Bool.{Bool}
-use mathlib.Core.List.{List, map, foldr}
+use mathlib.Core.List.{map, foldr}
 use mathlib.Core.Path.{_≡_}
 use Prim.Native.Nat.{ℕ, min, _<_, _≤_}
 use lib.Dec.{ltb}
@@ -36,14 +36,21 @@ overlapb S f g = both (ltb (low S g) (high S f)) (ltb (low S f) (high S g))
 
 -- The links, each with its kind (0 same, 1 different), both ways round.
 pub data Link (S : Tree) : ℕ → ℕ → ℕ → Type 0 where
-  within : (f b : ℕ) → TreeLine S f → Held S f b → (b ≡ top S f → ⊥) → Link S b (top S f) 0
-  across : (f g : ℕ) → Fork S f g → Overlap S f g → Link S (top S f) (top S g) 1
-  along : (f b : ℕ) → TreeLine S f → Lowest S f b → (b ≡ bottom S f → ⊥) → Link S b (bottom S f) 0
+  to-top : (f b : ℕ) → TreeLine S f → Held S f b → (b ≡ top S f → ⊥) → Link S b (top S f) 0
+  tops : (f g : ℕ) → Fork S f g → Overlap S f g → Link S (top S f) (top S g) 1
+  to-bottom : (f b : ℕ) → TreeLine S f → Lowest S f b → (b ≡ bottom S f → ⊥) → Link S b (bottom S f) 0
   turned : {b c k : ℕ} → Link S b c k → Link S c b k
 
 -- What a choice obeys that obeys every link, link by link.
 pub record Obeys (S : Tree) (side : ℕ → ℕ) : Type 0 where
   pub bits : (b : ℕ) → BackLine S b → side b ≤ right
-  pub within : (f b : ℕ) → TreeLine S f → Held S f b → side b ≡ side (top S f)
-  pub across : (f g : ℕ) → Fork S f g → Overlap S f g → side (top S f) ≡ side (top S g) → ⊥
-  pub along : (f b : ℕ) → TreeLine S f → Lowest S f b → side b ≡ side (bottom S f)
+  pub as-top : (f b : ℕ) → TreeLine S f → Held S f b → side b ≡ side (top S f)
+  pub tops-apart : (f g : ℕ) → Fork S f g → Overlap S f g → side (top S f) ≡ side (top S g) → ⊥
+  pub as-bottom : (f b : ℕ) → TreeLine S f → Lowest S f b → side b ≡ side (bottom S f)
+
+-- Line i ends higher than line k, or lower: what makes the top and the bottom of a line the best of its returns.
+unfoldable pub ends-higher : Tree → ℕ → ℕ → Bool
+ends-higher S i k = ltb (end S k) (end S i)
+
+unfoldable pub ends-lower : Tree → ℕ → ℕ → Bool
+ends-lower S i k = ltb (end S i) (end S k)

@@ -1,20 +1,20 @@
 -- What a loop finds is what the list of those that pass has: its least, its greatest; and the best is the first that none beats. By the steps of the
 -- loop, each an equation.
-use mathlib.Core.Bool.{Bool, true, false, cond}
-use mathlib.Core.List.{List, map, foldr}
+use mathlib.Core.Bool.{Bool, true, false}
+use mathlib.Core.List.{map, foldr}
 use mathlib.Core.Logic.{_⊎_, inl, inr, _≢_}
-use mathlib.Core.Path.{_≡_, refl, sym, _∙_, ap, subst}
+use mathlib.Core.Path.{_≡_, refl, _∙_, ap, subst}
 use Prim.Native.Nat.{ℕ, zero, suc, _+_, _≤_, _<_, min, max}
 use native.Mathlib.Omega.{arith}
 use lib.Dec.{leb}
 use borrow.Author.Tests.{le-leb, lt-leb}
-use Rattle.laws.specs.Tests.{both, either}
+use Rattle.laws.specs.Tests.{either}
 use Rattle.laws.specs.Counting.{many}
 use Rattle.laws.specs.Lists.{from, keep}
 use Rattle.laws.specs.Running.{minimum, maximum, best}
 use Rattle.laws.proofs.Cases.{cases, bool, true-false, eq-or, lt-or}
 use Rattle.laws.proofs.Tests.{both-yes, both-no-first, both-no-second, either-first, either-second, either-no}
-use Rattle.laws.proofs.Lists.{All, all-keep, all-kept, all-both, all-many, from-in, from-all, min-le, min-in, min-most}
+use Rattle.laws.proofs.Lists.{all-keep, all-kept, all-both, all-many, from-in, from-all, min-le, min-in, min-most}
 use Rattle.laws.proofs.Occurring.{many-keep-yes}
 use Rattle.laws.proofs.Greatest.{max-le, max-in, max-least}
 

@@ -1,6 +1,6 @@
 -- Where one test passes, another does: `either (not a) b` read as an implication.
-use mathlib.Core.Bool.{Bool, true, false, not}
-use mathlib.Core.Path.{_≡_, refl, ap}
+use mathlib.Core.Bool.{Bool, true, not}
+use mathlib.Core.Path.{_≡_, ap}
 use Rattle.laws.specs.Tests.{either}
 use Rattle.laws.proofs.Cases.{cases, bool, true-false}
 use Rattle.laws.proofs.Tests.{either-first, either-second, either-of}
