@@ -5,3 +5,6 @@ pub mod Lists
 pub mod Occurring
 pub mod Checks
 pub mod Filling
+pub mod Greatest
+pub mod Wherever
+pub mod Running
