@@ -4,7 +4,7 @@ use mathlib.Core.Path.{_≡_, sym, _∙_}
 use Prim.Native.Nat.{ℕ, _+_, _%_, _≤_}
 use native.Mathlib.Omega.{arith}
 use Rattle.tree.specs.Tree.{Tree}
-use Rattle.tree.proofs.Tree.{BackLine}
+use Rattle.tree.specs.Words.{BackLine}
 use Rattle.fork.specs.Fork.{right, Legal, Aligned, Constraint, same-side, other-side}
 use Rattle.fork.proofs.Rule.{legal-same, legal-different, legal-by}
 

@@ -8,7 +8,7 @@ use Rattle.laws.specs.Tests.{both, least}
 use Rattle.laws.specs.Counting.{bit}
 use Rattle.tree.specs.Tree.{Tree}
 use Rattle.tree.specs.Returns.{end, returnb, returns, low}
-use Rattle.tree.proofs.Tree.{Return}
+use Rattle.tree.specs.Words.{Return}
 
 -- The greatest height at which a return of e ends; 0 where e has none.
 unfoldable pub high : Tree → ℕ → ℕ

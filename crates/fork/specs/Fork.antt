@@ -6,7 +6,7 @@ use lib.Dec.{eqb, ltb, leb}
 use Rattle.laws.specs.Tests.{both, either, all, any}
 use Rattle.tree.specs.Tree.{Tree}
 use Rattle.tree.specs.Returns.{end, backb, returnb, low}
-use Rattle.tree.proofs.Tree.{Line, TreeLine, BackLine, Return}
+use Rattle.tree.specs.Words.{Line, TreeLine, BackLine, Return}
 use Rattle.fork.specs.Ends.{Lowest, lowestb}
 
 -- The two sides.

@@ -10,7 +10,7 @@ use Rattle.laws.specs.Tests.{both}
 use Rattle.laws.specs.Lists.{keep, upto}
 use Rattle.tree.specs.Tree.{Tree}
 use Rattle.tree.specs.Returns.{end, returnb, low}
-use Rattle.tree.proofs.Tree.{TreeLine, BackLine, Return}
+use Rattle.tree.specs.Words.{TreeLine, BackLine, Return}
 use Rattle.fork.specs.Ends.{Lowest, high, top, bottom}
 use Rattle.fork.specs.Fork.{Fork, forkb, right}
 
