@@ -1,0 +1,3 @@
+-- Choices, constraints, rings, and the tables of groups.
+pub mod Order
+pub mod Constraints
