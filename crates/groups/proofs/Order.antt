@@ -7,7 +7,7 @@ use native.Mathlib.Omega.{arith}
 use lib.ListN.{length}
 use lib.Seq.{ext-getD}
 use Rattle.laws.proofs.Cases.{cases, lt-or}
-use Rattle.groups.specs.Order.{at, Agree, Before, First, Next, Last, Listed, start, more}
+use Rattle.groups.specs.Order.{at, Agree, Before, First, Next, Last, Listed, start, more, Listing}
 
 pub agree-sym : (n : ℕ) (c d : ℕ → ℕ) → Agree n c d → Agree n d c
 agree-sym n c d a b h = sym (a b h)
@@ -92,3 +92,16 @@ module _ (n : ℕ) (Good Good′ : (ℕ → ℕ) → Type 0) (to : (c : ℕ → 
   pub listed-same : {k : ℕ} {c : ℕ → ℕ} → Listed n Good k c → Listed n Good′ k c
   listed-same (start {c} f) = start (first-same c f)
   listed-same (more {c = c} {d = d} l f) = more (listed-same l) (next-same c d f)
+
+-- (the other way round, for the lists)
+module _ (n : ℕ) (Good Good′ : (ℕ → ℕ) → Type 0) (to : (c : ℕ → ℕ) → Good c → Good′ c) (from : (c : ℕ → ℕ) → Good′ c → Good c) where
+  pub listing-same : Listing n Good → Listing n Good′
+  listing-same l =
+      record {
+        every = λ c g. let q = l .every c (from c g) in (q .0, listed-same n Good Good′ to from (q .1));
+        once = λ j k c p q. l .once j k c (listed-same n Good′ Good from to p) (listed-same n Good′ Good from to q);
+        rising = λ j k c d p q. l .rising j k c d (listed-same n Good′ Good from to p) (listed-same n Good′ Good from to q);
+        ends =
+            let q = l .ends in
+            (q .0, q .1, listed-same n Good Good′ to from (q .2), last-same n Good Good′ to from (q .1) (q .3));
+      }

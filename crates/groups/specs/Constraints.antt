@@ -34,11 +34,15 @@ pub record BackLine (lines : ℕ) (back : ℕ → Bool) (b : ℕ) : Type 0 where
   pub within : b < lines
   pub is-back : back b ≡ true
 
+-- Each constraint has the sides that it wants.
+abbrev pub Keeps : Constraints → (ℕ → ℕ) → Type 0
+Keeps P c = (b d k : ℕ) → P b d k → Even (c b + c d + k)
+
 -- A choice that obeys the constraints has 2 at each tree line, 0 or 1 at each back line, and the sides that each constraint wants.
 pub record Obeys (lines : ℕ) (back : ℕ → Bool) (P : Constraints) (c : ℕ → ℕ) : Type 0 where
   pub tree : (b : ℕ) → b < lines → back b ≡ false → c b ≡ 2
   pub side : (b : ℕ) → BackLine lines back b → c b ≤ 1
-  pub kept : (b d k : ℕ) → P b d k → Even (c b + c d + k)
+  pub kept : Keeps P c
 
 -- The shape of a ring of n lines, each with the kind of the constraint to the line after it: two or more lines, no line twice, an odd number of
 -- "different"; it begins at its lowest line and goes on to the lower of that line's two neighbours, and a ring of two gives "same" first.

@@ -1,3 +1,4 @@
 -- Choices, constraints, rings, and the tables of groups.
 pub mod Order
 pub mod Constraints
+pub mod Groups
