@@ -1,3 +1,4 @@
 pub mod Order
 pub mod Listing
 pub mod Groups
+pub mod Choosing
