@@ -7,7 +7,7 @@ use Prim.Native.Nat.{ℕ, zero, suc, _+_, _%_, _≤_, _<_}
 use native.Mathlib.Omega.{arith}
 use Rattle.laws.proofs.Cases.{cases, bool, true-false, eq-or}
 use Rattle.groups.specs.Constraints.{Constraints, More, Even, Keeps, BackLine}
-use Rattle.groups.specs.Groups.{Tables, Joins, Way, stay, onward, Grouped, Put, Relabelled, Merged}
+use Rattle.groups.specs.Groups.{Tables, Joins, Way, stay, onward, Grouped, Put, Merged}
 
 -- Ways
 
@@ -141,7 +141,7 @@ module _ (lines : ℕ) (back : ℕ → Bool) (P : Constraints) (t : Tables) (g :
         (λ w. (rw (← w .0) (g .home b (hb .within)), rw (← w .0) (g .kin b hb)))
 
     low-stays : t′ .leader low ≡ low
-    low-stays = m .groups low (low-led .1 .within) .stays (λ e. omega (arith, low-led .0)) .0 ∙ low-led .0
+    low-stays = m .groups .each low (low-led .1 .within) .stays (λ e. omega (arith, low-led .0)) .0 ∙ low-led .0
 
     -- a line goes over, or stays
     pub record Over (x : ℕ) : Type 0 where
@@ -157,8 +157,8 @@ module _ (lines : ℕ) (back : ℕ → Bool) (P : Constraints) (t : Tables) (g :
     over-or : (x : ℕ) → x < lines → Over x ⊎ Stays x
     over-or x h =
         cases (eq-or (t .leader x) high)
-        (λ e. let q = m .groups x h .moved e in inl (record { was = e; now = q .0; turned = q .1 }))
-        (λ n. let q = m .groups x h .stays n in inr (record { was = n; now = q .0; parity = q .1 }))
+        (λ e. let q = m .groups .each x h .moved e in inl (record { was = e; now = q .0; turned = q .1 }))
+        (λ n. let q = m .groups .each x h .stays n in inr (record { was = n; now = q .0; parity = q .1 }))
 
     joined-low : (x : ℕ) → x < lines → t′ .leader x ≤ x
     joined-low x h = cases (over-or x h) (λ o. omega (arith, o .was, o .now, g .low x h)) (λ o. omega (arith, o .now, g .low x h))
@@ -166,7 +166,7 @@ module _ (lines : ℕ) (back : ℕ → Bool) (P : Constraints) (t : Tables) (g :
     joined-home : (x : ℕ) → x < lines → t′ .leader (t′ .leader x) ≡ t′ .leader x
     joined-home x h =
         cases (over-or x h) (λ o. rw (o .now) low-stays)
-        (λ o. rw (o .now) (m .groups (t .leader x) (omega (arith, g .low x h)) .stays (λ e. o .was (sym (g .home x h) ∙ e)) .0 ∙ g .home x h))
+        (λ o. rw (o .now) (m .groups .each (t .leader x) (omega (arith, g .low x h)) .stays (λ e. o .was (sym (g .home x h) ∙ e)) .0 ∙ g .home x h))
 
     joined-tree : (x : ℕ) → x < lines → back x ≡ false → (t′ .leader x ≡ x) × (t′ .parity x ≡ 2)
     joined-tree x h f =
@@ -221,12 +221,12 @@ module _ (lines : ℕ) (back : ℕ → Bool) (P : Constraints) (t : Tables) (g :
     between =
         cases who
         (λ w.
-        let ob = m .groups b (hb .within) .stays (λ e. omega (arith, w .0)) in
-        let od = m .groups d (hd .within) .moved (w .1) in
+        let ob = m .groups .each b (hb .within) .stays (λ e. omega (arith, w .0)) in
+        let od = m .groups .each d (hd .within) .moved (w .1) in
         (ob .0 ∙ w .0 ∙ sym (od .0), omega (arith, ob .1, od .1)))
         (λ w.
-        let ob = m .groups b (hb .within) .moved (w .0) in
-        let od = m .groups d (hd .within) .stays (λ e. omega (arith, w .1)) in
+        let ob = m .groups .each b (hb .within) .moved (w .0) in
+        let od = m .groups .each d (hd .within) .stays (λ e. omega (arith, w .1)) in
         (ob .0 ∙ sym (w .1) ∙ sym (od .0), omega (arith, ob .1, od .1)))
 
     joined-closed : (x y z : ℕ) → More P b d k x y z → (t′ .leader x ≡ t′ .leader y) × Even (t′ .parity x + t′ .parity y + z)

@@ -2,3 +2,5 @@ pub mod Order
 pub mod Listing
 pub mod Groups
 pub mod Choosing
+pub mod Filling
+pub mod Taking

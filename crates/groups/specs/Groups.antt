@@ -64,9 +64,8 @@ pub record Relabel (low high turn l p l′ p′ : ℕ) : Type 0 where
   pub moved : l ≡ high → (l′ ≡ low) × (p′ ≡ (p + turn) % 2)
   pub stays : (l ≡ high → ⊥) → (l′ ≡ l) × (p′ ≡ p)
 
-abbrev pub Relabelled : ℕ → ℕ → ℕ → ℕ → (ℕ → ℕ) → (ℕ → ℕ) → (ℕ → ℕ) → (ℕ → ℕ) → Type 0
-Relabelled lines low high turn leader parity leader′ parity′ =
-    (x : ℕ) → x < lines → Relabel low high turn (leader x) (parity x) (leader′ x) (parity′ x)
+pub record Relabelled (lines low high turn : ℕ) (leader parity leader′ parity′ : ℕ → ℕ) : Type 0 where
+  pub each : (x : ℕ) → x < lines → Relabel low high turn (leader x) (parity x) (leader′ x) (parity′ x)
 
 -- The group of `high` is given to `low` by a constraint between b and d.
 pub record Merged (lines low high turn b d : ℕ) (t t′ : Tables) : Type 0 where
