@@ -4,3 +4,5 @@ pub mod Groups
 pub mod Choosing
 pub mod Filling
 pub mod Taking
+pub mod Answers
+pub mod Rings

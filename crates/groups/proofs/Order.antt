@@ -68,6 +68,17 @@ module _ (n : ℕ) (Good : (ℕ → ℕ) → Type 0) where
   pub next-or-last-once : (c d : ℕ → ℕ) → Next n Good c d → Last n Good c → ⊥
   next-or-last-once c d p l = l d (p .good) (p .after)
 
+  -- .. and a choice with the same bytes is the first or the next too, where it is good
+  pub first-agree : (c d : ℕ → ℕ) → First n Good c → Good d → Agree n c d → First n Good d
+  first-agree c d f g a =
+      record {
+        good = g;
+        least = λ e h.
+            cases (f .least e h)
+            (λ q. inl (λ b o. sym (a b o) ∙ q b o))
+            (λ l. inr (before-same n c d e e a (λ b o. refl) l));
+      }
+
   -- of lists of n bytes
   lists-same : (c d : List ℕ) → length c ≡ n → length d ≡ n → Agree n (at c) (at d) → c ≡ d
   lists-same c d p q a = ext-getD 0 c d (omega arith) (λ i h. a i (omega arith))
