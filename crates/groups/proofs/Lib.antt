@@ -6,3 +6,4 @@ pub mod Filling
 pub mod Taking
 pub mod Answers
 pub mod Rings
+pub mod Flooding
