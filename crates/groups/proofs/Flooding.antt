@@ -11,8 +11,8 @@ use Rattle.laws.specs.Counting.{count}
 use Rattle.laws.proofs.Cases.{cases, eq-or, lt-or}
 use Rattle.laws.proofs.Counting.{count-le, count-all}
 use Rattle.groups.specs.Constraints.{Constraints, Between, More, Even, BackLine, Ring}
-use Rattle.groups.specs.Groups.{Tables, Joins, Way, Grouped, Put}
-use Rattle.groups.specs.Rings.{Drawn, Torn, Reach, Step, Reached, across, Spread, Scanned, Climbed, Chain, Lowest, wrap, kindOf, spotOf, linkOf, Upward}
+use Rattle.groups.specs.Groups.{Joins, Way, Grouped, Put}
+use Rattle.groups.specs.Rings.{Drawn, Torn, Reach, Step, Queued, Reached, across, Spread, Scanned, Climbed, Chain, Lowest, wrap, kindOf, spotOf, linkOf, Upward}
 use Rattle.groups.proofs.Groups.{way-append, way-turn, way-in}
 use Rattle.groups.proofs.Rings.{wrap-low, wrap-high, wrap-within, Hop, Circle, up-ring, down-ring, ring-map}
 
@@ -46,21 +46,24 @@ pub across-inside : (u v w m : ℕ) → u < m → v < m → w < m → across u v
 across-inside u v w m hu hv hw =
     cases (across-or u v w) (λ a. omega (arith, a .1)) (λ o. cases o (λ a. omega (arith, a .1)) (λ a. omega arith))
 
-module _ (lines b : ℕ) (t : Tables) where
+module _ (lines b : ℕ) (from to : ℕ → ℕ) where
   -- The start
 
-  pub reached-start : (r : Reach) → b < lines → r .queue 0 ≡ b → r .place b ≡ 1 → ((x : ℕ) → (x ≡ b → ⊥) → x < lines → r .place x ≡ 0) → Spread lines b t 1 0 r
+  pub reached-start : (r : Reach) → b < lines → r .queue 0 ≡ b → r .place b ≡ 1 → ((x : ℕ) → (x ≡ b → ⊥) → x < lines → r .place x ≡ 0) → Spread lines b from to 1 0 r
   reached-start r h q p z =
       record {
         reached =
             record {
-              some = omega arith;
+              queued =
+                  record {
+                    some = omega arith;
+                    inside = λ i o. let e : i ≡ 0 = omega arith in rw (e, q) h;
+                    placed = λ i o. let e : i ≡ 0 = omega arith in rw (e, q) p;
+                    spot = λ x o. cases (eq-or x b) (λ e. inr (0, omega arith, rw e p, q ∙ sym e)) (λ n. inl (z x n o));
+                    earlier = λ i o k. absurd (omega arith);
+                  };
               root = q;
-              inside = λ i o. let e : i ≡ 0 = omega arith in rw (e, q) h;
-              placed = λ i o. let e : i ≡ 0 = omega arith in rw (e, q) p;
-              spot = λ x o.
-                  cases (eq-or x b) (λ e. inr (0, omega arith, rw e p, q ∙ sym e)) (λ n. inl (z x n o));
-              twig = λ i o. inl (omega arith);
+              twig = λ i o k. absurd (omega arith);
             };
         ahead = omega arith;
         closed = λ i o. absurd (omega arith);
@@ -68,22 +71,16 @@ module _ (lines b : ℕ) (t : Tables) where
 
   -- One line more
 
-  module _ (n head e : ℕ) (r : Reach) (s : Scanned lines b t n head e r) where
-    reached : Reached lines b t n r
-    reached = s .spread .reached
-
-    w : ℕ
-    w = r .queue head
-
+  module _ (n head e : ℕ) (r : Reach) (s : Scanned lines b from to n head e r) where
     w-placed : 0 < r .place (r .queue head)
-    w-placed = omega (arith, s .spread .reached .placed head (s .pending))
+    w-placed = omega (arith, s .spread .reached .queued .placed head (s .pending))
 
     pub w-inside : r .queue head < lines
-    w-inside = s .spread .reached .inside head (s .pending)
+    w-inside = s .spread .reached .queued .inside head (s .pending)
 
     -- a line that is not reached, across a step from w
-    module _ (he : e < lines) (v : ℕ) (is-v : v ≡ across (t .from e) (t .to e) (r .queue head)) where
-      pub scan-reached : (r .place v ≡ 0 → ⊥) → Scanned lines b t n head (suc e) r
+    module _ (he : e < lines) (v : ℕ) (is-v : v ≡ across (from e) (to e) (r .queue head)) where
+      pub scan-reached : (r .place v ≡ 0 → ⊥) → Scanned lines b from to n head (suc e) r
       scan-reached d =
           let d′ : r .place v ≢ 0 = d in
           record {
@@ -96,9 +93,9 @@ module _ (lines b : ℕ) (t : Tables) where
           }
 
       module _ (un : r .place v ≡ 0) where
-        found-step : Step lines t (r .queue head) v
+        found-step : Step lines from to (r .queue head) v
         found-step =
-            cases (across-or (t .from e) (t .to e) (r .queue head))
+            cases (across-or (from e) (to e) (r .queue head))
             (λ a. inl (record { place = e; within = he; is-from = a .0; is-to = sym (is-v ∙ a .1) }))
             (λ o.
             cases o
@@ -106,7 +103,7 @@ module _ (lines b : ℕ) (t : Tables) where
             (λ a. absurd (omega (arith, ap (r .place) (is-v ∙ a), w-placed))))
 
         old-line : (i : ℕ) → i < n → r .queue i ≡ v → ⊥
-        old-line i h q = omega (arith, ap (r .place) q, s .spread .reached .placed i h)
+        old-line i h q = omega (arith, ap (r .place) q, s .spread .reached .queued .placed i h)
 
         module _ (hv : v < lines) where
           with-v : ℕ → ℕ
@@ -121,13 +118,13 @@ module _ (lines b : ℕ) (t : Tables) where
           with-old i h = rw (ne-eqb i n (λ q. omega arith))
 
           places-differ : (i j : ℕ) → i < n → j < n → r .queue i ≡ r .queue j → i ≡ j
-          places-differ i j hi hj q = omega (arith, ap (r .place) q, s .spread .reached .placed i hi, s .spread .reached .placed j hj)
+          places-differ i j hi hj q = omega (arith, ap (r .place) q, s .spread .reached .queued .placed i hi, s .spread .reached .queued .placed j hj)
 
           -- so the queue has room for it
           pub room : n < lines
           room =
               pigeon with-v (suc n) lines
-              (λ i h. cases (lt-or i n) (λ o. rw (with-old i o) (s .spread .reached .inside i o)) (λ o. let q : i ≡ n = omega arith in rw (q, with-new) hv))
+              (λ i h. cases (lt-or i n) (λ o. rw (with-old i o) (s .spread .reached .queued .inside i o)) (λ o. let q : i ≡ n = omega arith in rw (q, with-new) hv))
               (λ i j hi hj q.
               cases (lt-or i n)
               (λ o.
@@ -145,40 +142,47 @@ module _ (lines b : ℕ) (t : Tables) where
             old-queue i h = pq .there i (λ q. omega arith)
 
             old-place : (i : ℕ) → i < n → r′ .place (r .queue i) ≡ suc i
-            old-place i h = pp .there (r .queue i) (old-line i h) ∙ s .spread .reached .placed i h
+            old-place i h = pp .there (r .queue i) (old-line i h) ∙ s .spread .reached .queued .placed i h
 
             still : (x : ℕ) → 0 < r .place x → 0 < r′ .place x
             still x h = cases (eq-or x v) (λ q. absurd (omega (arith, ap (r .place) q))) (λ d. omega (arith, pp .there x d))
 
-            push-reached : Reached lines b t (suc n) r′
-            push-reached =
+            push-queued : Queued lines (suc n) r′
+            push-queued =
                 record {
                   some = omega arith;
-                  root = old-queue 0 (s .spread .reached .some) ∙ s .spread .reached .root;
                   inside = λ i h.
-                      cases (lt-or i n) (λ o. rw (old-queue i o) (s .spread .reached .inside i o)) (λ o. let q : i ≡ n = omega arith in rw (q, pq .here) hv);
+                      cases (lt-or i n) (λ o. rw (old-queue i o) (s .spread .reached .queued .inside i o)) (λ o. let q : i ≡ n = omega arith in rw (q, pq .here) hv);
                   placed = λ i h.
                       cases (lt-or i n) (λ o. rw (old-queue i o) (old-place i o)) (λ o. let q : i ≡ n = omega arith in rw (q, pq .here) (pp .here));
                   spot = λ x h.
                       cases (eq-or x v)
                       (λ q. inr (n, omega arith, ap (r′ .place) q ∙ pp .here, pq .here ∙ sym q))
                       (λ d.
-                      cases (s .spread .reached .spot x h)
+                      cases (s .spread .reached .queued .spot x h)
                       (λ z. inl (pp .there x d ∙ z))
                       (λ z. inr (z .0, omega (arith, z .1), pp .there x d ∙ z .2, old-queue (z .0) (z .1) ∙ z .3)));
-                  twig = λ i h.
+                  earlier = λ i k h.
                       cases (lt-or i n)
-                      (λ o.
-                      cases (s .spread .reached .twig i o) inl
-                      (λ z.
-                      let f : r′ .via i ≡ r .via i = pv .there i (λ q. omega arith) in
-                      inr (rw f (z .0), rw (f, old-queue i o, old-queue (r .via i) (omega (arith, z .0))) (z .1))))
-                      (λ o.
-                      let q : i ≡ n = omega arith in
-                      inr (rw q (rw (pv .here) (s .pending)), rw q (rw (pv .here, pq .here, old-queue head (s .pending)) found-step)));
+                      (λ o. rw (pv .there i (λ q. omega arith)) (s .spread .reached .queued .earlier i k o))
+                      (λ o. let q : i ≡ n = omega arith in rw q (rw (pv .here) (s .pending)));
                 }
 
-            pub scan-push : Scanned lines b t (suc n) head (suc e) r′
+            push-reached : Reached lines b from to (suc n) r′
+            push-reached =
+                record {
+                  queued = push-queued;
+                  root = old-queue 0 (s .spread .reached .queued .some) ∙ s .spread .reached .root;
+                  twig = λ i k h.
+                      cases (lt-or i n)
+                      (λ o.
+                      let f : r′ .via i ≡ r .via i = pv .there i (λ q. omega arith) in
+                      let e = s .spread .reached .queued .earlier i k o in
+                      rw (f, old-queue i o, old-queue (r .via i) (omega arith)) (s .spread .reached .twig i k o))
+                      (λ o. let q : i ≡ n = omega arith in rw q (rw (pv .here, pq .here, old-queue head (s .pending)) found-step));
+                }
+
+            pub scan-push : Scanned lines b from to (suc n) head (suc e) r′
             scan-push =
                 let hw = old-queue head (s .pending) in
                 record {
@@ -187,20 +191,20 @@ module _ (lines b : ℕ) (t : Tables) where
                         reached = push-reached;
                         ahead = omega (arith, s .spread .ahead);
                         closed = λ i h x o.
-                            rw (old-queue i (omega (arith, s .pending))) (still (across (t .from x) (t .to x) (r .queue i)) (s .spread .closed i h x o));
+                            rw (old-queue i (omega (arith, s .pending))) (still (across (from x) (to x) (r .queue i)) (s .spread .closed i h x o));
                       };
                   pending = omega (arith, s .pending);
                   upto = he;
                   scanned = λ x h.
                       rw hw
-                      (cases (lt-or x e) (λ o. still (across (t .from x) (t .to x) (r .queue head)) (s .scanned x o))
+                      (cases (lt-or x e) (λ o. still (across (from x) (to x) (r .queue head)) (s .scanned x o))
                       (λ o. let q : x ≡ e = omega arith in rw (q, ← is-v, pp .here) (omega arith)));
                 }
 
-  pub scan-none : (n head : ℕ) (r : Reach) → Spread lines b t n head r → head < n → Scanned lines b t n head 0 r
+  pub scan-none : (n head : ℕ) (r : Reach) → Spread lines b from to n head r → head < n → Scanned lines b from to n head 0 r
   scan-none n head r s h = record { spread = s; pending = h; upto = omega arith; scanned = λ x o. absurd (omega arith) }
 
-  pub scan-done : (n head e : ℕ) (r : Reach) → Scanned lines b t n head e r → lines ≤ e → Spread lines b t n (suc head) r
+  pub scan-done : (n head e : ℕ) (r : Reach) → Scanned lines b from to n head e r → lines ≤ e → Spread lines b from to n (suc head) r
   scan-done n head e r s h =
       record {
         reached = s .spread .reached;
@@ -211,100 +215,130 @@ module _ (lines b : ℕ) (t : Tables) where
 
   -- Nothing leads out
 
-  pub all-reached : (n head d : ℕ) (r : Reach) → Spread lines b t n head r → n ≤ head → b < lines
-      → ((x : ℕ) → x < lines → (t .from x < lines) × (t .to x < lines)) → Way (Joins lines t) b d → (d < lines) × (0 < r .place d)
+  pub all-reached : (n head d : ℕ) (r : Reach) → Spread lines b from to n head r → n ≤ head → b < lines
+      → ((x : ℕ) → x < lines → (from x < lines) × (to x < lines)) → Way (Joins lines from to) b d → (d < lines) × (0 < r .place d)
   all-reached n head d r s h hb inside w = way-in (λ x. (x < lines) × (0 < r .place x)) (hb, start) further w
     where
       start : 0 < r .place b
       start =
-          let q = s .reached .placed 0 (s .reached .some) in
+          let q = s .reached .queued .placed 0 (s .reached .queued .some) in
           omega (arith, ap (r .place) (s .reached .root))
 
       -- from a line that is reached to the other end of a step
-      go : (x y : ℕ) → 0 < r .place x → x < lines → (j : ℕ) → j < lines → across (t .from j) (t .to j) x ≡ y → 0 < r .place y
+      go : (x y : ℕ) → 0 < r .place x → x < lines → (j : ℕ) → j < lines → across (from j) (to j) x ≡ y → 0 < r .place y
       go x y p hx j hj e =
-          cases (s .reached .spot x hx) (λ z. absurd (omega arith))
+          cases (s .reached .queued .spot x hx) (λ z. absurd (omega arith))
           (λ z. rw (← e, ← z .3) (s .closed (z .0) (omega (arith, z .1)) j hj))
 
-      further : (u v : ℕ) → (u < lines) × (0 < r .place u) → Joins lines t u v ⊎ Joins lines t v u → (v < lines) × (0 < r .place v)
+      further : (u v : ℕ) → (u < lines) × (0 < r .place u) → Joins lines from to u v ⊎ Joins lines from to v u → (v < lines) × (0 < r .place v)
       further u v (hu, pu) (inl j) =
-          (rw (← j .is-to) (inside (j .place) (j .within) .1), go u v pu hu (j .place) (j .within) (across-from (t .from (j .place)) (t .to (j .place)) u (j .is-from) ∙ j .is-to))
+          (rw (← j .is-to) (inside (j .place) (j .within) .1), go u v pu hu (j .place) (j .within) (across-from (from (j .place)) (to (j .place)) u (j .is-from) ∙ j .is-to))
       further u v (hu, pu) (inr j) =
-          cases (eq-or (t .from (j .place)) u)
+          cases (eq-or (from (j .place)) u)
           (λ e. let q : v ≡ u = sym (j .is-from) ∙ e in rw q (hu, pu))
           (λ n.
-          (rw (← j .is-from) (inside (j .place) (j .within) .0), go u v pu hu (j .place) (j .within) (across-to (t .from (j .place)) (t .to (j .place)) u (j .is-to) n ∙ j .is-from)))
+          (rw (← j .is-from) (inside (j .place) (j .within) .0), go u v pu hu (j .place) (j .within) (across-to (from (j .place)) (to (j .place)) u (j .is-to) n ∙ j .is-from)))
 
-  -- Climbing back
+  pub reached-few : (n : ℕ) (r : Reach) → Queued lines n r → n ≤ lines
+  reached-few n r g = pigeon (r .queue) n lines (g .inside) (λ i j hi hj q. omega (arith, ap (r .place) q, g .placed i hi, g .placed j hj))
 
-  module _ (n d : ℕ) (r : Reach) (g : Reached lines b t n r) where
-    pub climb-none : d < lines → 0 < r .place d → (line : ℕ → ℕ) → line 0 ≡ d → Climbed lines b d t n r (r .place d - 1) 0 line
-    climb-none h p line e =
-        cases (g .spot d h) (λ z. absurd (omega arith))
-        (λ z.
-        let q : r .place d - 1 ≡ z .0 = omega (arith, z .2) in
+-- Climbing back
+
+module _ (lines d n : ℕ) (r : Reach) (g : Queued lines n r) where
+  pub climb-none : d < lines → 0 < r .place d → (line : ℕ → ℕ) → line 0 ≡ d → Climbed lines d n r (r .place d - 1) 0 line
+  climb-none h p line e =
+      cases (g .spot d h) (λ z. absurd (omega arith))
+      (λ z.
+      let q : r .place d - 1 ≡ z .0 = omega (arith, z .2) in
+      record {
+        first = e;
+        last = rw q (e ∙ sym (z .3));
+        room = omega (arith, z .1);
+        inside = λ s o. let f : s ≡ 0 = omega arith in rw (f, e) h;
+        later = λ s o. absurd (omega arith);
+        along = λ s o. absurd (omega arith);
+      })
+
+  module _ (p i : ℕ) (line : ℕ → ℕ) (c : Climbed lines d n r p i line) (some : p ≡ 0 → ⊥) where
+    above : 0 < p
+    above = let d′ : p ≢ 0 = some in omega arith
+
+    pub via-less : r .via p < p
+    via-less = g .earlier p above (omega (arith, c .room))
+
+    pub climb-more : (line′ : ℕ → ℕ) → Put line (suc i) (r .queue (r .via p)) line′ → Climbed lines d n r (r .via p) (suc i) line′
+    climb-more line′ m =
+        let u = via-less in
+        let h : p < n = omega (arith, c .room) in
+        let h′ : r .via p < n = omega arith in
+        let a = above in
+        let old : (s : ℕ) → s ≤ i → line′ s ≡ line s = λ s o. m .there s (λ q. omega arith) in
+        let here : r .place (line′ i) ≡ suc p = ap (r .place) (old i (omega arith) ∙ c .last) ∙ g .placed p h in
         record {
-          first = e;
-          last = rw q (e ∙ sym (z .3));
-          room = omega (arith, z .1);
-          inside = λ s o. let f : s ≡ 0 = omega arith in rw (f, e) h;
-          falls = λ s o. absurd (omega arith);
-          steps = λ s o. absurd (omega arith);
-        })
+          first = old 0 (omega arith) ∙ c .first;
+          last = m .here;
+          room = omega (arith, c .room);
+          inside = λ s o.
+              cases (lt-or s (suc i)) (λ k. rw (old s (omega arith)) (c .inside s (omega arith)))
+              (λ k. let q : s ≡ suc i = omega arith in rw (q, m .here) (g .inside (r .via p) h′));
+          later = λ s o.
+              cases (lt-or s i) (λ k. rw (old s (omega arith)) (c .later s k))
+              (λ k. let q : s ≡ i = omega arith in rw q (omega arith, omega arith));
+          along = λ s o.
+              cases (lt-or s i) (λ k. rw (old s (omega arith), old (suc s) k) (c .along s k))
+              (λ k.
+              let q : s ≡ i = omega arith in
+              let e : r .place (line′ i) - 1 ≡ p = omega arith in
+              rw q (m .here ∙ ap (λ (x : ℕ). r .queue (r .via x)) (sym e)));
+        }
 
-    module _ (p i : ℕ) (line line′ : ℕ → ℕ) (c : Climbed lines b d t n r p i line) (some : p ≡ 0 → ⊥) where
-      up-there : (r .via p < p) × Step lines t (r .queue (r .via p)) (r .queue p)
-      up-there = cases (g .twig p (omega (arith, c .room))) (λ z. absurd (some z)) (λ z. z)
+-- .. from a flood: different lines, each with a step to the next
+module _ (lines b d : ℕ) (from to : ℕ → ℕ) (n : ℕ) (r : Reach) (g : Reached lines b from to n r)
+    (i : ℕ) (line : ℕ → ℕ) (c : Climbed lines d n r 0 i line) where
+  -- the line at s is at its place
+  at-place : (s : ℕ) → s < i → r .queue (r .place (line s) - 1) ≡ line s
+  at-place s h =
+      cases (g .queued .spot (line s) (c .inside s (omega arith)))
+      (λ z. absurd (omega (arith, c .later s h)))
+      (λ z. let e : r .place (line s) - 1 ≡ z .0 = omega (arith, z .2) in rw e (z .3))
 
-      pub via-less : r .via p < p
-      via-less = up-there .0
+  falls : (s : ℕ) → s < i → r .place (line (suc s)) < r .place (line s)
+  falls s h =
+      let l = c .later s h in
+      let q = r .place (line s) - 1 in
+      let e = g .queued .earlier q (omega arith) (omega arith) in
+      let p = g .queued .placed (r .via q) (omega arith) in
+      rw (c .along s h) (omega arith)
 
-      pub climb-more : Put line (suc i) (r .queue (r .via p)) line′ → Climbed lines b d t n r (r .via p) (suc i) line′
-      climb-more m =
-          let u = up-there in
-          let h : p < n = omega (arith, c .room) in
-          let h′ : r .via p < n = omega (arith, u .0) in
-          let old : (s : ℕ) → s ≤ i → line′ s ≡ line s = λ s o. m .there s (λ q. omega arith) in
-          record {
-            first = old 0 (omega arith) ∙ c .first;
-            last = m .here;
-            room = omega (arith, c .room, u .0);
-            inside = λ s o.
-                cases (lt-or s (suc i)) (λ k. rw (old s (omega arith)) (c .inside s (omega arith)))
-                (λ k. let q : s ≡ suc i = omega arith in rw (q, m .here) (g .inside (r .via p) h′));
-            falls = λ s o.
-                cases (lt-or s i) (λ k. rw (old s (omega arith), old (suc s) k) (c .falls s k))
-                (λ k.
-                let q : s ≡ i = omega arith in
-                rw q (rw (m .here, old i (omega arith), c .last) (omega (arith, g .placed p h, g .placed (r .via p) h′, u .0))));
-            steps = λ s o.
-                cases (lt-or s i) (λ k. rw (old s (omega arith), old (suc s) k) (c .steps s k))
-                (λ k. let q : s ≡ i = omega arith in rw q (rw (m .here, old i (omega arith), c .last) (u .1)));
-          }
+  step : (s : ℕ) → s < i → Step lines from to (line (suc s)) (line s)
+  step s h =
+      let l = c .later s h in
+      rw (c .along s h)
+      (subst (λ (x : ℕ). Step lines from to (r .queue (r .via (r .place (line s) - 1))) x) (at-place s h)
+      (g .twig (r .place (line s) - 1) (omega arith) (omega arith)))
 
-    module _ (i : ℕ) (line : ℕ → ℕ) (c : Climbed lines b d t n r 0 i line) where
-      lower-by : (s k : ℕ) → suc (s + k) ≤ i → r .place (line (suc (s + k))) < r .place (line s)
-      lower-by s zero h = let z : s + 0 ≡ s = omega arith in rw z (c .falls s (omega arith))
-      lower-by s (suc k) h =
-          let z : s + suc k ≡ suc (s + k) = omega arith in
-          rw z (omega (arith, c .falls (suc (s + k)) (omega arith), lower-by s k (omega arith)))
+  lower-by : (s k : ℕ) → suc (s + k) ≤ i → r .place (line (suc (s + k))) < r .place (line s)
+  lower-by s zero h = let z : s + 0 ≡ s = omega arith in rw z (falls s (omega arith))
+  lower-by s (suc k) h =
+      let z : s + suc k ≡ suc (s + k) = omega arith in
+      rw z (omega (arith, falls (suc (s + k)) (omega arith), lower-by s k (omega arith)))
 
-      lower : (s j : ℕ) → s < j → j ≤ i → r .place (line j) < r .place (line s)
-      lower s j h o = let z : j ≡ suc (s + (j - suc s)) = omega arith in rw z (lower-by s (j - suc s) (omega arith))
+  lower : (s j : ℕ) → s < j → j ≤ i → r .place (line j) < r .place (line s)
+  lower s j h o = let z : j ≡ suc (s + (j - suc s)) = omega arith in rw z (lower-by s (j - suc s) (omega arith))
 
-      pub chain : Chain lines b d t (suc i) line
-      chain =
-          record {
-            some = omega arith;
-            few = pigeon line (suc i) lines (λ s h. c .inside s (omega arith)) differ;
-            first = c .first;
-            last = λ j h. let z : j ≡ i = omega arith in rw z (c .last ∙ g .root);
-            inside = λ s h. c .inside s (omega arith);
-            apart = differ;
-            steps = λ s h. c .steps s (omega arith);
-          }
-        where
-          differ : (s j : ℕ) → s < suc i → j < suc i → line s ≡ line j → s ≡ j
-          differ s j hs hj e =
-              cases (lt-or s j) (λ o. absurd (omega (arith, lower s j o (omega arith), ap (r .place) e)))
-              (λ o. cases (lt-or j s) (λ o′. absurd (omega (arith, lower j s o′ (omega arith), ap (r .place) e))) (λ o′. omega arith))
+  differ : (s j : ℕ) → s < suc i → j < suc i → line s ≡ line j → s ≡ j
+  differ s j hs hj e =
+      cases (lt-or s j) (λ o. absurd (omega (arith, lower s j o (omega arith), ap (r .place) e)))
+      (λ o. cases (lt-or j s) (λ o′. absurd (omega (arith, lower j s o′ (omega arith), ap (r .place) e))) (λ o′. omega arith))
+
+  pub chain : Chain lines b d from to (suc i) line
+  chain =
+      record {
+        some = omega arith;
+        few = pigeon line (suc i) lines (λ s h. c .inside s (omega arith)) differ;
+        first = c .first;
+        last = λ j h. let z : j ≡ i = omega arith in rw z (c .last ∙ g .root);
+        inside = λ s h. c .inside s (omega arith);
+        apart = differ;
+        steps = λ s h. step s (omega arith);
+      }

@@ -60,7 +60,7 @@ grouped-none lines back t s =
       inside = λ x h. (omega (arith, s .alone x h .1), omega (arith, s .alone x h .2));
       idle = λ x h e. s .alone x h .1 ∙ sym (s .alone x h .2);
       taken = λ x h. inl (s .alone x h .1 ∙ sym (s .alone x h .2));
-      way = λ b h. subst (λ (x : ℕ). Way (Joins lines t) x b) (sym (s .alone b (h .within) .0)) stay;
+      way = λ b h. subst (λ (x : ℕ). Way (Joins lines (t .from) (t .to)) x b) (sym (s .alone b (h .within) .0)) stay;
     }
 
 -- The constraints taken in may be said in another way.
@@ -267,7 +267,7 @@ module _ (lines : ℕ) (back : ℕ → Bool) (P : Constraints) (t : Tables) (g :
         omega (arith, together (t .from x) (t .to x) _ (q .0) (q .1) (c .0) (c .1) .1) in
         inr (inl (subst (λ (z : ℕ). P (t .from x) (t .to x) z) kind p)))))
 
-    old-step : (u v : ℕ) → Joins lines t u v → (u ≡ v) ⊎ Joins lines t′ u v
+    old-step : (u v : ℕ) → Joins lines (t .from) (t .to) u v → (u ≡ v) ⊎ Joins lines (t′ .from) (t′ .to) u v
     old-step u v j =
         cases (eq-or (j .place) high)
         (λ e. inl (sym (j .is-from) ∙ g .idle (j .place) (j .within) (ap (t .leader) e ∙ high-led .0 ∙ sym e) ∙ j .is-to))
@@ -279,20 +279,20 @@ module _ (lines : ℕ) (back : ℕ → Bool) (P : Constraints) (t : Tables) (g :
           is-to = m .to .there (j .place) n ∙ j .is-to;
         }))
 
-    new-step : Joins lines t′ b d
+    new-step : Joins lines (t′ .from) (t′ .to) b d
     new-step = record { place = high; within = high-led .1 .within; is-from = m .from .here; is-to = m .to .here }
 
-    old-way : (x : ℕ) → BackLine lines back x → Way (Joins lines t′) (t .leader x) x
+    old-way : (x : ℕ) → BackLine lines back x → Way (Joins lines (t′ .from) (t′ .to)) (t .leader x) x
     old-way x h = way-map old-step (g .way x h)
 
     -- from `low` by the new step to `high`
-    bridge : Way (Joins lines t′) low high
+    bridge : Way (Joins lines (t′ .from) (t′ .to)) low high
     bridge =
         cases who
         (λ w. rw (← w .0, ← w .1) (way-append (onward (old-way b hb) (inl new-step)) (way-turn (old-way d hd))))
         (λ w. rw (← w .0, ← w .1) (way-append (onward (old-way d hd) (inr new-step)) (way-turn (old-way b hb))))
 
-    joined-way : (x : ℕ) → BackLine lines back x → Way (Joins lines t′) (t′ .leader x) x
+    joined-way : (x : ℕ) → BackLine lines back x → Way (Joins lines (t′ .from) (t′ .to)) (t′ .leader x) x
     joined-way x h =
         cases (over-or x (h .within))
         (λ o. rw (o .now) (way-append bridge (rw (o .was) at (old-way x h))))

@@ -7,3 +7,4 @@ pub mod Taking
 pub mod Answers
 pub mod Rings
 pub mod Flooding
+pub mod Showing

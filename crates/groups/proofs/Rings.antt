@@ -10,8 +10,8 @@ use borrow.Author.Tests.{eq-eqb, ne-eqb, lt-ltb, le-ltb, le-leb, eqb-true, eqb-f
 use Rattle.laws.specs.Tests.{both, either, all}
 use Rattle.laws.specs.Counting.{count}
 use Rattle.laws.proofs.Cases.{cases, eq-or, lt-or}
-use Rattle.laws.proofs.Tests.{both-yes, both-of, either-first, either-second, all-yes, all-of}
-use Rattle.laws.proofs.Counting.{count-zero, count-yes, count-no}
+use Rattle.laws.proofs.Tests.{both-yes, both-of, either-first, either-second, either-of, all-yes, all-of}
+use Rattle.laws.proofs.Counting.{count-zero, count-yes, count-no, count-same}
 use Rattle.groups.specs.Constraints.{Constraints, Between, Even, Keeps, apartb, oddb, orderedb, ringb, Ring}
 use Rattle.groups.specs.Rings.{wrap}
 
@@ -65,6 +65,45 @@ apart-of n line kind e i j h o = eqb-false (line i) (line j) (not-true _ (all-of
 odd-of : (n : ℕ) (line kind : ℕ → ℕ) → ringb n line kind ≡ true → differents kind n % 2 ≡ 1
 unfolding ringb oddb differents
 odd-of n line kind e = eqb-true _ 1 (both-of (both-of (both-of e .1) .1) .0)
+
+shape-of : (n : ℕ) (line kind : ℕ → ℕ) → ringb n line kind ≡ true → Shape n line kind
+unfolding ringb apartb oddb orderedb differents
+shape-of n line kind e =
+    let q = both-of (both-of (both-of (both-of e .1) .1) .1) in
+    let r = both-of (q .1) in
+    record {
+      two = two-of n line kind e;
+      apart = apart-of n line kind e;
+      odd = odd-of n line kind e;
+      low = λ i h. leb-true (line 0) (line i) (all-of _ n (q .0) i h);
+      turn = leb-true (line 1) (line (n - 1)) (r .0);
+      first = λ z.
+          cases (either-of (r .1))
+          (λ t. absurd (eqb-false n 2 (not-true _ t) z))
+          (λ t. eqb-true (kind 0) 0 t);
+    }
+
+-- a ring is what stands in its n places
+pub ring-agree : (P : Constraints) (n : ℕ) (line kind line′ kind′ : ℕ → ℕ) → Ring P n line kind → ((j : ℕ) → j < n → line′ j ≡ line j)
+    → ((j : ℕ) → j < n → kind′ j ≡ kind j) → Ring P n line′ kind′
+unfolding differents
+ring-agree P n line kind line′ kind′ r a a′ =
+    let s = shape-of n line kind (r .shape) in
+    let two = s .two in
+    record {
+      shape =
+          ringb-of n line′ kind′
+          (record {
+            two = s .two;
+            apart = λ i j h o e. s .apart i j h o (sym (a i (omega arith)) ∙ e ∙ a j o);
+            odd = ap (λ (x : ℕ). x % 2) (count-same (λ i. eqb (kind′ i) 1) (λ i. eqb (kind i) 1) n (λ i h. ap (λ (x : ℕ). eqb x 1) (a′ i h))) ∙ s .odd;
+            low = λ i h. omega (arith, a 0 (omega arith), a i h, s .low i h);
+            turn = omega (arith, a 1 (omega arith), a (n - 1) (omega arith), s .turn);
+            first = λ z. a′ 0 (omega arith) ∙ s .first z;
+          });
+      step = λ i h. rw (a i (omega arith), a (suc i) h, a′ i (omega arith)) (r .step i h);
+      close = λ i h. rw (a i (omega arith), a 0 (omega arith), a′ i (omega arith)) (r .close i h);
+    }
 
 -- No choice keeps the constraints of a ring
 

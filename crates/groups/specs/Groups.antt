@@ -22,11 +22,11 @@ abbrev pub tables : List ℕ → List ℕ → List ℕ → List ℕ → Tables
 tables leader parity from to = record { leader = at leader; parity = at parity; from = at from; to = at to }
 
 -- A constraint that joined two groups was one between u and v.
-pub record Joins (lines : ℕ) (t : Tables) (u v : ℕ) : Type 0 where
+pub record Joins (lines : ℕ) (from to : ℕ → ℕ) (u v : ℕ) : Type 0 where
   pub place : ℕ
   pub within : place < lines
-  pub is-from : t .from place ≡ u
-  pub is-to : t .to place ≡ v
+  pub is-from : from place ≡ u
+  pub is-to : to place ≡ v
 
 -- A way from a along steps, taken in either direction.
 pub data Way (J : ℕ → ℕ → Type 0) (a : ℕ) : ℕ → Type 0 where
@@ -52,7 +52,7 @@ pub record Grouped (lines : ℕ) (back : ℕ → Bool) (P : Constraints) (t : Ta
   pub inside : (x : ℕ) → x < lines → (t .from x < lines) × (t .to x < lines)
   pub idle : (x : ℕ) → x < lines → t .leader x ≡ x → t .from x ≡ t .to x
   pub taken : (x : ℕ) → x < lines → (t .from x ≡ t .to x) ⊎ P (t .from x) (t .to x) ((t .parity (t .from x) + t .parity (t .to x)) % 2)
-  pub way : (b : ℕ) → BackLine lines back b → Way (Joins lines t) (t .leader b) b
+  pub way : (b : ℕ) → BackLine lines back b → Way (Joins lines (t .from) (t .to)) (t .leader b) b
 
 -- g is f with x at v.
 pub record Put (f : ℕ → ℕ) (v x : ℕ) (g : ℕ → ℕ) : Type 0 where

@@ -9,23 +9,23 @@ use lib.Dec.{eqb, ltb}
 use lib.ListN.{length}
 use Rattle.groups.specs.Order.{at}
 use Rattle.groups.specs.Constraints.{Constraints, Between, Even, Ring}
-use Rattle.groups.specs.Groups.{Tables, tables, Joins, Way}
+use Rattle.groups.specs.Groups.{Joins, Way}
 use Rattle.groups.specs.Calls.{Past}
 
 -- The constraints that joined groups, with the kinds that the parities say, and the one between b and d that does not agree.
-abbrev pub Drawn : ℕ → Tables → ℕ → ℕ → ℕ → Constraints
-Drawn lines t b d k u v z = (Joins lines t u v × (z ≡ (t .parity u + t .parity v) % 2)) ⊎ ((u ≡ b) × (v ≡ d) × (z ≡ k))
+abbrev pub Drawn : ℕ → (ℕ → ℕ) → (ℕ → ℕ) → (ℕ → ℕ) → ℕ → ℕ → ℕ → Constraints
+Drawn lines parity from to b d k u v z = (Joins lines from to u v × (z ≡ (parity u + parity v) % 2)) ⊎ ((u ≡ b) × (v ≡ d) × (z ≡ k))
 
 -- A conflict: b and d are in one group, and the constraint between them does not agree with the parities.
-pub record Torn (lines : ℕ) (t : Tables) (b d k : ℕ) : Type 0 where
+pub record Torn (lines : ℕ) (parity from to : ℕ → ℕ) (b d k : ℕ) : Type 0 where
   pub few : lines ≤ 2048
   pub first : b < lines
   pub second : d < lines
   pub apart : b ≡ d → ⊥
   pub small : k ≤ 1
-  pub odd : (t .parity b + t .parity d + k) % 2 ≡ 1
-  pub inside : (x : ℕ) → x < lines → (t .from x < lines) × (t .to x < lines)
-  pub way : Way (Joins lines t) b d
+  pub odd : (parity b + parity d + k) % 2 ≡ 1
+  pub inside : (x : ℕ) → x < lines → (from x < lines) × (to x < lines)
+  pub way : Way (Joins lines from to) b d
 
 -- The lines that the flood from b has reached: the queue of them; the place in it that each was reached from; and for each line one more than its
 -- place, or 0 where it is not reached.
@@ -37,63 +37,101 @@ pub record Reach : Type 0 where
 abbrev pub reach : List ℕ → List ℕ → List ℕ → Reach
 reach queue via place = record { queue = at queue; via = at via; place = at place }
 
-abbrev pub Step : ℕ → Tables → ℕ → ℕ → Type 0
-Step lines t u v = Joins lines t u v ⊎ Joins lines t v u
+abbrev pub Step : ℕ → (ℕ → ℕ) → (ℕ → ℕ) → ℕ → ℕ → Type 0
+Step lines from to u v = Joins lines from to u v ⊎ Joins lines from to v u
 
--- The first n places of the queue are right.
-pub record Reached (lines b : ℕ) (t : Tables) (n : ℕ) (r : Reach) : Type 0 where
+-- The first n places of the queue and the lines' places fit together, and each place but the first was reached from an earlier one.
+pub record Queued (lines n : ℕ) (r : Reach) : Type 0 where
   pub some : 0 < n
-  pub root : r .queue 0 ≡ b
   pub inside : (i : ℕ) → i < n → r .queue i < lines
   pub placed : (i : ℕ) → i < n → r .place (r .queue i) ≡ suc i
   pub spot : (x : ℕ) → x < lines → (r .place x ≡ 0) ⊎ ((i : ℕ) × (i < n) × (r .place x ≡ suc i) × (r .queue i ≡ x))
-  pub twig : (i : ℕ) → i < n → (i ≡ 0) ⊎ ((r .via i < i) × Step lines t (r .queue (r .via i)) (r .queue i))
+  pub earlier : (i : ℕ) → 0 < i → i < n → r .via i < i
+
+-- .. by a step, and the first is b.
+pub record Reached (lines b : ℕ) (from to : ℕ → ℕ) (n : ℕ) (r : Reach) : Type 0 where
+  pub queued : Queued lines n r
+  pub root : r .queue 0 ≡ b
+  pub twig : (i : ℕ) → 0 < i → i < n → Step lines from to (r .queue (r .via i)) (r .queue i)
 
 -- The other end of a step between u and v, seen from w; w itself where it is no end.
 unfoldable pub across : ℕ → ℕ → ℕ → ℕ
 across u v w = cond (eqb u w) v (cond (eqb v w) u w)
 
 -- From the places before `head` every step leads to a line that is reached.
-pub record Spread (lines b : ℕ) (t : Tables) (n head : ℕ) (r : Reach) : Type 0 where
-  pub reached : Reached lines b t n r
+pub record Spread (lines b : ℕ) (from to : ℕ → ℕ) (n head : ℕ) (r : Reach) : Type 0 where
+  pub reached : Reached lines b from to n r
   pub ahead : head ≤ n
-  pub closed : (i : ℕ) → i < head → (x : ℕ) → x < lines → 0 < r .place (across (t .from x) (t .to x) (r .queue i))
+  pub closed : (i : ℕ) → i < head → (x : ℕ) → x < lines → 0 < r .place (across (from x) (to x) (r .queue i))
 
 -- .. and from the place `head` the steps below e do.
-pub record Scanned (lines b : ℕ) (t : Tables) (n head e : ℕ) (r : Reach) : Type 0 where
-  pub spread : Spread lines b t n head r
+pub record Scanned (lines b : ℕ) (from to : ℕ → ℕ) (n head e : ℕ) (r : Reach) : Type 0 where
+  pub spread : Spread lines b from to n head r
   pub pending : head < n
   pub upto : e ≤ lines
-  pub scanned : (x : ℕ) → x < e → 0 < r .place (across (t .from x) (t .to x) (r .queue head))
+  pub scanned : (x : ℕ) → x < e → 0 < r .place (across (from x) (to x) (r .queue head))
 
--- What a turn of the flood asks: room, and the steps between lines.
-pub record Flooding (lines : ℕ) (t : Tables) (from to queue via place : List ℕ) : Type 0 where
+-- What the flood asks: room, and steps between lines.
+pub record Room (lines : ℕ) (from to queue via place : List ℕ) : Type 0 where
   pub few : lines ≤ 2048
   pub froms : lines ≤ length from
   pub tos : lines ≤ length to
   pub queues : lines ≤ length queue
   pub vias : lines ≤ length via
   pub places : lines ≤ length place
-  pub inside : (x : ℕ) → x < lines → (t .from x < lines) × (t .to x < lines)
+  pub inside : (x : ℕ) → x < lines → (at from x < lines) × (at to x < lines)
 
--- The lines from d down to b along the steps of the flood, each with a lower place than the one before.
-pub record Climbed (lines b d : ℕ) (t : Tables) (n : ℕ) (r : Reach) (p i : ℕ) (line : ℕ → ℕ) : Type 0 where
+-- What a look at step e from the place `head` asks, what all looks from there ask, and what the flood asks.
+pub record Looking (lines b e head n : ℕ) (from to queue via place : List ℕ) : Type 0 where
+  pub room : Room lines from to queue via place
+  pub below : e < lines
+  pub state : Scanned lines b (at from) (at to) n head e (reach queue via place)
+
+pub record Scanning (lines b head n : ℕ) (from to queue via place : List ℕ) : Type 0 where
+  pub room : Room lines from to queue via place
+  pub pending : head < n
+  pub state : Spread lines b (at from) (at to) n head (reach queue via place)
+
+pub record Flooding (lines b : ℕ) (from to queue via place : List ℕ) : Type 0 where
+  pub room : Room lines from to queue via place
+  pub root : b < lines
+  pub fresh : (x : ℕ) → x < lines → at place x ≡ 0
+
+-- What the climb back from d asks.
+pub record Climbing (lines d n : ℕ) (queue via place line : List ℕ) : Type 0 where
+  pub few : lines ≤ 2048
+  pub queues : lines ≤ length queue
+  pub vias : lines ≤ length via
+  pub places : lines ≤ length place
+  pub chains : lines ≤ length line
+  pub inside : d < lines
+  pub reached : 0 < at place d
+  pub queued : Queued lines n (reach queue via place)
+
+-- The lines from d on, each reached from the next, as far as the one at the place p.
+pub record Climbed (lines d n : ℕ) (r : Reach) (p i : ℕ) (line : ℕ → ℕ) : Type 0 where
   pub first : line 0 ≡ d
   pub last : line i ≡ r .queue p
   pub room : i + p < n
   pub inside : (s : ℕ) → s ≤ i → line s < lines
-  pub falls : (s : ℕ) → s < i → r .place (line (suc s)) < r .place (line s)
-  pub steps : (s : ℕ) → s < i → Step lines t (line (suc s)) (line s)
+  pub later : (s : ℕ) → s < i → (1 < r .place (line s)) × (r .place (line s) ≤ n)
+  pub along : (s : ℕ) → s < i → line (suc s) ≡ r .queue (r .via (r .place (line s) - 1))
+
+-- All of them: n lines.
+pub record Trail (lines d n : ℕ) (r : Reach) (k : ℕ) (line : List ℕ) : Type 0 where
+  pub last-place : ℕ
+  pub is-last : suc last-place ≡ k
+  pub climbed : Climbed lines d n r 0 last-place (at line)
 
 -- A way of n different lines from d to b.
-pub record Chain (lines b d : ℕ) (t : Tables) (n : ℕ) (line : ℕ → ℕ) : Type 0 where
+pub record Chain (lines b d : ℕ) (from to : ℕ → ℕ) (n : ℕ) (line : ℕ → ℕ) : Type 0 where
   pub some : 0 < n
   pub few : n ≤ lines
   pub first : line 0 ≡ d
   pub last : (i : ℕ) → suc i ≡ n → line i ≡ b
   pub inside : (s : ℕ) → s < n → line s < lines
   pub apart : (i j : ℕ) → i < n → j < n → line i ≡ line j → i ≡ j
-  pub steps : (s : ℕ) → suc s < n → Step lines t (line (suc s)) (line s)
+  pub steps : (s : ℕ) → suc s < n → Step lines from to (line (suc s)) (line s)
 
 -- m is the place of the lowest of n lines.
 pub record Lowest (n : ℕ) (line : ℕ → ℕ) (m : ℕ) : Type 0 where
@@ -120,6 +158,22 @@ abbrev pub Upward : ℕ → ℕ → ℕ → ℕ → Bool → Type 0
 Upward n k x y true = (n ≡ 2 → k ≡ 0) × ((n ≡ 2 → ⊥) → x ≤ y)
 Upward n k x y false = (n ≡ 2 → k ≡ 0 → ⊥) × ((n ≡ 2 → ⊥) → y ≤ x)
 
+-- What reading the chain asks: its lines have parities.
+pub record Tracing (n k : ℕ) (parity line : List ℕ) : Type 0 where
+  pub some : 0 < n
+  pub few : n ≤ 2048
+  pub chains : n ≤ length line
+  pub parities : (s : ℕ) → s < n → at line s < length parity
+
+-- What the whole asks.
+pub record Showing (lines b d k : ℕ) (parity from to ring kinds : List ℕ) : Type 0 where
+  pub conflict : Torn lines (at parity) (at from) (at to) b d k
+  pub parities : lines ≤ length parity
+  pub froms : lines ≤ length from
+  pub tos : lines ≤ length to
+  pub rings : lines ≤ length ring
+  pub kindss : lines ≤ length kinds
+
 -- The ring as written, and what lies past it as it was.
 pub record Traced (parity line : ℕ → ℕ) (n m : ℕ) (up : Bool) (k : ℕ) (ring kinds ring′ kinds′ : List ℕ) : Type 0 where
   pub its-lines : (j : ℕ) → j < n → at ring′ j ≡ line (spotOf n m up j)
@@ -128,8 +182,8 @@ pub record Traced (parity line : ℕ → ℕ) (n m : ℕ) (up : Bool) (k : ℕ) 
   pub kinds-rest : Past n kinds kinds′
 
 -- What is answered: a ring, in the first n places of the buffers.
-pub record Shown (lines : ℕ) (t : Tables) (b d k n : ℕ) (ring kinds ring′ kinds′ : List ℕ) : Type 0 where
+pub record Shown (lines : ℕ) (parity from to : ℕ → ℕ) (b d k n : ℕ) (ring kinds ring′ kinds′ : List ℕ) : Type 0 where
   pub few : n ≤ lines
-  pub is-ring : Ring (Between (Drawn lines t b d k)) n (at ring′) (at kinds′)
+  pub is-ring : Ring (Between (Drawn lines parity from to b d k)) n (at ring′) (at kinds′)
   pub ring-rest : Past n ring ring′
   pub kinds-rest : Past n kinds kinds′
