@@ -19,10 +19,12 @@ use Rattle.groups.proofs.Rings.{wrap-low, wrap-high, wrap-within, Hop, 
 -- different numbers below m are not more than m
 pub pigeon : (f : ℕ → ℕ) (n m : ℕ) → ((i : ℕ) → i < n → f i < m) → ((i j : ℕ) → i < n → j < n → f i ≡ f j → i ≡ j) → n ≤ m
 pigeon f n m below one =
-    omega
-    (arith,
-    count-le (λ i x. f i ≡ x) (λ i. true) (λ i. true) n m (λ i h e. (f i, below i h, refl, refl)) (λ i j x h k p q. one i j h k (p ∙ sym q)),
-    count-all n, count-all m)
+    omega (
+      arith,
+      count-le (λ i x. f i ≡ x) (λ i. true) (λ i. true) n m (λ i h e. (f i, below i h, refl, refl)) (λ i j x h k p q. one i j h k (p ∙ sym q)),
+      count-all n,
+      count-all m,
+    )
 
 -- The end of a step across from w
 

@@ -8,3 +8,5 @@ pub mod Answers
 pub mod Rings
 pub mod Flooding
 pub mod Showing
+pub mod Steps
+pub mod Reading

@@ -202,11 +202,13 @@ module _ (Q : Constraints) (s : ℕ → ℕ) (n t : ℕ) (line kind : ℕ → �
   circle-walk (suc i) h =
       let w = circle-walk i (omega arith) in
       let p = hop-on i h in
-      let m = differents-more kind i (p .small) in
-      (λ o. omega (arith, w .0 (omega arith), p .even (λ e. omega arith)), λ o.
-          cases (eq-or i t)
-          (λ e. omega (arith, w .0 (omega arith), p .odd e))
-          (λ d. let d′ : i ≢ t = d in omega (arith, w .1 (omega arith), p .even d)))
+      let m = differents-more kind i (p .small) in (
+        λ o. omega (arith, w .0 (omega arith), p .even (λ e. omega arith)),
+        λ o.
+            cases (eq-or i t)
+            (λ e. omega (arith, w .0 (omega arith), p .odd e))
+            (λ d. let d′ : i ≢ t = d in omega (arith, w .1 (omega arith), p .even d)),
+      )
 
   circle-odd : (i : ℕ) → suc i ≡ n → differents kind n % 2 ≡ 1
   circle-odd i h =

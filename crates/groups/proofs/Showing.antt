@@ -13,7 +13,7 @@ use Rattle.groups.specs.Order.{at}
 use Rattle.groups.specs.Constraints.{Constraints, Between, More, Even, BackLine, Ring}
 use Rattle.groups.specs.Groups.{Tables, Joins, Way, Grouped}
 use Rattle.groups.specs.Calls.{joined}
-use Rattle.groups.specs.Rings.{Drawn, Torn, Step, Chain, Lowest, wrap, kindOf, spotOf, linkOf, Upward, Traced, Shown}
+use Rattle.groups.specs.Rings.{Drawn, Torn, Step, Chain, Lowest, wrap, kindOf, spotOf, linkOf, Upward, TracedLines, TracedKinds, Shown}
 use Rattle.groups.specs.declared.Joining.the-variants.{Conflicts}
 use Rattle.groups.proofs.Groups.{way-append, way-turn}
 use Rattle.groups.proofs.Rings.{wrap-low, wrap-high, wrap-within, Hop, Circle, up-ring, down-ring, ring-map, ring-agree}
@@ -85,29 +85,29 @@ module _ (lines b d k : ℕ) (parity from to : ℕ → ℕ) where
       same-neighbour e = ap (λ (x : ℕ). line (wrap n x)) (omega arith)
 
       up-shown : (ring ring′ kinds kinds′ : List ℕ) → Upward n (kindOf parity line n k m) (line (wrap n (m + 1))) (line (wrap n (m + n - 1))) true
-          → Traced parity line n m true k ring kinds ring′ kinds′ → Ring Links n (at ring′) (at kinds′)
+          → TracedLines line n m true ring ring′ → TracedKinds parity line n m true k kinds kinds′ → Ring Links n (at ring′) (at kinds′)
       unfolding spotOf linkOf
-      up-shown ring ring′ kinds kinds′ u w =
+      up-shown ring ring′ kinds kinds′ u w w′ =
           ring-agree Links n (λ j. line (wrap n (m + j))) (λ j. kindOf parity line n k (wrap n (m + j))) (at ring′) (at kinds′)
           (up-ring Links turned parity n line (kindOf parity line n k) circle m (l .within) (l .low)
           (cases (eq-or n 2) (λ e. omega (arith, same-neighbour e)) (λ o. u .1 o)) (u .0))
-          (w .its-lines) (w .its-kinds)
+          (w .written) (w′ .written)
 
       down-shown : (ring ring′ kinds kinds′ : List ℕ) → Upward n (kindOf parity line n k m) (line (wrap n (m + 1))) (line (wrap n (m + n - 1))) false
-          → Traced parity line n m false k ring kinds ring′ kinds′ → Ring Links n (at ring′) (at kinds′)
+          → TracedLines line n m false ring ring′ → TracedKinds parity line n m false k kinds kinds′ → Ring Links n (at ring′) (at kinds′)
       unfolding spotOf linkOf
-      down-shown ring ring′ kinds kinds′ u w =
+      down-shown ring ring′ kinds kinds′ u w w′ =
           ring-agree Links n (λ j. line (wrap n (m + n - j))) (λ j. kindOf parity line n k (wrap n (m + n - suc j))) (at ring′) (at kinds′)
           (down-ring Links turned parity n line (kindOf parity line n k) circle m (l .within) (l .low)
           (cases (eq-or n 2) (λ e. omega (arith, same-neighbour e)) (λ o. u .1 o)) (u .0))
-          (w .its-lines) (w .its-kinds)
+          (w .written) (w′ .written)
 
       pub shown : (up : Bool) (ring ring′ kinds kinds′ : List ℕ) → Upward n (kindOf parity line n k m) (line (wrap n (m + 1))) (line (wrap n (m + n - 1))) up
-          → Traced parity line n m up k ring kinds ring′ kinds′ → Shown lines parity from to b d k n ring kinds ring′ kinds′
-      shown true ring ring′ kinds kinds′ u w =
-          record { few = c .few; is-ring = up-shown ring ring′ kinds kinds′ u w; ring-rest = w .ring-rest; kinds-rest = w .kinds-rest }
-      shown false ring ring′ kinds kinds′ u w =
-          record { few = c .few; is-ring = down-shown ring ring′ kinds kinds′ u w; ring-rest = w .ring-rest; kinds-rest = w .kinds-rest }
+          → TracedLines line n m up ring ring′ → TracedKinds parity line n m up k kinds kinds′ → Shown lines parity from to b d k n ring kinds ring′ kinds′
+      shown true ring ring′ kinds kinds′ u w w′ =
+          record { few = c .few; is-ring = up-shown ring ring′ kinds kinds′ u w w′; ring-rest = w .rest; kinds-rest = w′ .rest }
+      shown false ring ring′ kinds kinds′ u w w′ =
+          record { few = c .few; is-ring = down-shown ring ring′ kinds kinds′ u w w′; ring-rest = w .rest; kinds-rest = w′ .rest }
 
 -- What a conflict leaves, and what the ring shows
 

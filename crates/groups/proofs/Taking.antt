@@ -44,4 +44,3 @@ module _ (lines b d kind : ℕ) (leader parity from to : List ℕ) (j : Joinable
     joined-high n h m =
         let n′ : at leader b ≢ at leader d = n in
         record { low = at leader d; high = at leader b; less = omega arith; who = inr (refl, refl); merged = rw is-turn at m }
-

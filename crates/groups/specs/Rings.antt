@@ -85,6 +85,8 @@ pub record Room (lines : ℕ) (from to queue via place : List ℕ) : Type 0 wher
 pub record Looking (lines b e head n : ℕ) (from to queue via place : List ℕ) : Type 0 where
   pub room : Room lines from to queue via place
   pub below : e < lines
+  pub ahead : head < n
+  pub most : n ≤ lines
   pub state : Scanned lines b (at from) (at to) n head e (reach queue via place)
 
 pub record Scanning (lines b head n : ℕ) (from to queue via place : List ℕ) : Type 0 where
@@ -106,6 +108,7 @@ pub record Climbing (lines d n : ℕ) (queue via place line : List ℕ) : Type 0
   pub chains : lines ≤ length line
   pub inside : d < lines
   pub reached : 0 < at place d
+  pub most : n ≤ lines
   pub queued : Queued lines n (reach queue via place)
 
 -- The lines from d on, each reached from the next, as far as the one at the place p.
@@ -133,6 +136,17 @@ pub record Chain (lines b d : ℕ) (from to : ℕ → ℕ) (n : ℕ) (line : ℕ
   pub apart : (i j : ℕ) → i < n → j < n → line i ≡ line j → i ≡ j
   pub steps : (s : ℕ) → suc s < n → Step lines from to (line (suc s)) (line s)
 
+-- What finding it asks.
+pub record Finding (lines b d : ℕ) (from to line : List ℕ) : Type 0 where
+  pub few : lines ≤ 2048
+  pub first : b < lines
+  pub second : d < lines
+  pub froms : lines ≤ length from
+  pub tos : lines ≤ length to
+  pub chains : lines ≤ length line
+  pub inside : (x : ℕ) → x < lines → (at from x < lines) × (at to x < lines)
+  pub way : Way (Joins lines (at from) (at to)) b d
+
 -- m is the place of the lowest of n lines.
 pub record Lowest (n : ℕ) (line : ℕ → ℕ) (m : ℕ) : Type 0 where
   pub within : m < n
@@ -152,6 +166,14 @@ spotOf n m up j = cond up (wrap n (m + j)) (wrap n (m + n - j))
 
 unfoldable pub linkOf : ℕ → ℕ → Bool → ℕ → ℕ
 linkOf n m up j = cond up (wrap n (m + j)) (wrap n (m + n - suc j))
+
+pub record Spot (n m : ℕ) (up : Bool) (j r : ℕ) : Type 0 where
+  pub is : r ≡ spotOf n m up j
+  pub within : r < n
+
+pub record Link (n m : ℕ) (up : Bool) (j r : ℕ) : Type 0 where
+  pub is : r ≡ linkOf n m up j
+  pub within : r < n
 
 -- The way to go on from the lowest line, where k is the kind of the step up and the neighbours are x, upwards, and y.
 abbrev pub Upward : ℕ → ℕ → ℕ → ℕ → Bool → Type 0
@@ -174,12 +196,28 @@ pub record Showing (lines b d k : ℕ) (parity from to ring kinds : List ℕ) : 
   pub rings : lines ≤ length ring
   pub kindss : lines ≤ length kinds
 
--- The ring as written, and what lies past it as it was.
-pub record Traced (parity line : ℕ → ℕ) (n m : ℕ) (up : Bool) (k : ℕ) (ring kinds ring′ kinds′ : List ℕ) : Type 0 where
-  pub its-lines : (j : ℕ) → j < n → at ring′ j ≡ line (spotOf n m up j)
-  pub its-kinds : (j : ℕ) → j < n → at kinds′ j ≡ kindOf parity line n k (linkOf n m up j)
-  pub ring-rest : Past n ring ring′
-  pub kinds-rest : Past n kinds kinds′
+-- The ring's lines and its kinds as written, and what lies past them as it was.
+pub record TracedLines (line : ℕ → ℕ) (n m : ℕ) (up : Bool) (ring ring′ : List ℕ) : Type 0 where
+  pub written : (j : ℕ) → j < n → at ring′ j ≡ line (spotOf n m up j)
+  pub rest : Past n ring ring′
+
+pub record TracedKinds (parity line : ℕ → ℕ) (n m : ℕ) (up : Bool) (k : ℕ) (kinds kinds′ : List ℕ) : Type 0 where
+  pub written : (j : ℕ) → j < n → at kinds′ j ≡ kindOf parity line n k (linkOf n m up j)
+  pub rest : Past n kinds kinds′
+
+-- What writing the ring asks, and what it does.
+pub record Writing (n k : ℕ) (parity line ring kinds : List ℕ) : Type 0 where
+  pub tracing : Tracing n k parity line
+  pub rings : n ≤ length ring
+  pub kindss : n ≤ length kinds
+
+pub record Written (parity line : ℕ → ℕ) (n k : ℕ) (ring kinds ring′ kinds′ : List ℕ) : Type 0 where
+  pub from-place : ℕ
+  pub up : Bool
+  pub lowest : Lowest n line from-place
+  pub upward : Upward n (kindOf parity line n k from-place) (line (wrap n (from-place + 1))) (line (wrap n (from-place + n - 1))) up
+  pub its-lines : TracedLines line n from-place up ring ring′
+  pub its-kinds : TracedKinds parity line n from-place up k kinds kinds′
 
 -- What is answered: a ring, in the first n places of the buffers.
 pub record Shown (lines : ℕ) (parity from to : ℕ → ℕ) (b d k n : ℕ) (ring kinds ring′ kinds′ : List ℕ) : Type 0 where

@@ -2,6 +2,8 @@
 // choice, and the ring that shows a conflict.
 //
 // Its contracts cite specs/Groups.antt and, for what is between these functions alone, specs/Calls.antt.
+pub mod ring; // the ring that shows a conflict
+
 ghost use mathlib.Core.Path.{_≡_};
 ghost use Prim.Native.Nat.{ℕ, _+_, _%_, _≤_, _<_};
 ghost use lib.ListN.{length};
