@@ -1,4 +1,4 @@
--- The fork rule, and alignment: as propositions, and as tests that compute. (docs/RULES.md, "The fork rule".)
+-- The fork rule, and alignment: as propositions, and as tests that compute. (docs/RULES.md, "Forks" and "Choices".)
 use mathlib.Core.Bool.{Bool, not}
 use mathlib.Core.Path.{_≡_}
 use Prim.Native.Nat.{ℕ, _≤_, _<_}

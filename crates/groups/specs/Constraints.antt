@@ -1,4 +1,4 @@
--- Constraints between back lines, the choices that obey them, and the rings that no choice can obey. (docs/RULES.md, "Constraints" and "Rings".)
+-- Constraints between back lines, the choices that obey them, and the rings that no choice can obey. (docs/RULES.md, "Forks" and "Rings".)
 use mathlib.Core.Bool.{Bool, true, false, not}
 use mathlib.Core.Logic.{_⊎_}
 use mathlib.Core.Path.{_≡_}

@@ -8,6 +8,7 @@ pub struct Side {}
 
 impl Side {
     pub const LEFT: u8 = 0;
+
     pub const RIGHT: u8 = 1;
     // What a choice writes where there is no side: at a tree line.
     pub const TREE: u8 = 2;
