@@ -1,9 +1,8 @@
 -- What the functions' answers mean: the tables for one constraint more, or that no choice keeps it; the first choice; the next one, or none.
 use mathlib.Core.Bool.{Bool, true, false}
 use mathlib.Core.List.{List}
-use mathlib.Core.Logic.{_⊎_, inl, inr}
-use mathlib.Core.Path.{_≡_, refl, sym, _∙_, ap, subst}
-use Prim.Native.Nat.{ℕ, _+_, _≤_, _<_}
+use mathlib.Core.Path.{_≡_, sym, _∙_}
+use Prim.Native.Nat.{ℕ, _≤_, _<_}
 use native.Mathlib.Omega.{arith}
 use lib.ListN.{length}
 use Rattle.groups.specs.Order.{at, Agree, First, Next, Last}
@@ -12,7 +11,7 @@ use Rattle.groups.specs.Groups.{Tables, tables, Grouped}
 use Rattle.groups.specs.Calls.{Room, Started, Joinable, joined, Reading, Copied, Advanced, Stuck}
 use Rattle.groups.specs.declared.Joining.the-variants.{Agrees, Conflicts, Joins}
 use Rattle.groups.proofs.Order.{first-agree}
-use Rattle.groups.proofs.Groups.{Begun, None, grouped-none, grouped-agrees, grouped-joined, conflict}
+use Rattle.groups.proofs.Groups.{None, grouped-none, grouped-agrees, grouped-joined, conflict}
 use Rattle.groups.proofs.Choosing.{parity-first, parity-obeys, turned-next, no-pivot-last}
 
 -- The start

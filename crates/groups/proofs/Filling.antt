@@ -1,9 +1,9 @@
 -- Loops that write a list from the front: each place below i has what it should, and the rest is as it was.
 use mathlib.Core.Bool.{Bool, true, false, not}
 use mathlib.Core.List.{List}
-use mathlib.Core.Logic.{_⊎_, inl, inr, _≢_}
+use mathlib.Core.Logic.{inl, inr, _≢_}
 use mathlib.Core.Path.{_≡_, refl, sym, _∙_, ap}
-use Prim.Native.Nat.{ℕ, suc, _+_, _%_, _≤_, _<_}
+use Prim.Native.Nat.{ℕ, _+_, _%_, _≤_, _<_}
 use native.Mathlib.Numerals.{add-one}
 use native.Mathlib.Omega.{arith}
 use lib.Dec.{eqb}
@@ -11,10 +11,10 @@ use lib.ListN.{length, set, length-set}
 use lib.Seq.{getD-set-same, getD-set-other}
 use borrow.Author.Tests.{eq-eqb, ne-eqb, lt-leb, le-leb, not-true, not-false}
 use Rattle.laws.specs.Tests.{both, all}
-use Rattle.laws.proofs.Cases.{cases, lt-or, eq-or, bool, true-false}
+use Rattle.laws.proofs.Cases.{cases, eq-or, bool, true-false}
 use Rattle.laws.proofs.Tests.{all-yes, all-of}
 use Rattle.groups.specs.Order.{at}
-use Rattle.groups.specs.Groups.{Put, Relabelled, Merged, Recoloured, Turned, Pivot, NoPivot, fitb, fitsb, tables}
+use Rattle.groups.specs.Groups.{Put, Relabelled, Recoloured, fitb, fitsb}
 use Rattle.groups.specs.Calls.{Past, Numbered, Level, Levelled, Moved, Flipped, Copied, Sought, Rewritten, Advanced, Stuck, Reading, Wide}
 use Rattle.groups.proofs.Choosing.{pivot-more, no-pivot-more, pivot-here}
 

@@ -1,36 +1,14 @@
 -- The tables stay right: at the start, where no constraint is taken in; when a constraint joins two groups; when one agrees with the parities.
 -- And a constraint that does not agree can be kept by no choice.
 use mathlib.Core.Bool.{Bool, true, false}
-use mathlib.Core.Logic.{_⊎_, inl, inr, _≢_}
+use mathlib.Core.Logic.{_⊎_, inl, inr}
 use mathlib.Core.Path.{_≡_, refl, sym, _∙_, ap, subst}
-use Prim.Native.Nat.{ℕ, zero, suc, _+_, _%_, _≤_, _<_}
+use Prim.Native.Nat.{ℕ, _+_, _%_, _≤_, _<_}
 use native.Mathlib.Omega.{arith}
-use Rattle.laws.proofs.Cases.{cases, bool, true-false, eq-or}
+use Rattle.laws.proofs.Cases.{cases, true-false, eq-or}
 use Rattle.groups.specs.Constraints.{Constraints, More, Even, Keeps, BackLine}
-use Rattle.groups.specs.Groups.{Tables, Joins, Way, stay, onward, Grouped, Put, Merged}
-
--- Ways
-
-pub way-append : {J : ℕ → ℕ → Type 0} {a b d : ℕ} → Way J a b → Way J b d → Way J a d
-way-append w stay = w
-way-append w (onward v s) = onward (way-append w v) s
-
-pub way-turn : {J : ℕ → ℕ → Type 0} {a b : ℕ} → Way J a b → Way J b a
-way-turn stay = stay
-way-turn (onward w s) = way-append (onward stay (cases s inr inl)) (way-turn w)
-
--- each step is no step or a step of the other kind
-pub way-map : {J K : ℕ → ℕ → Type 0} {a b : ℕ} → ((u v : ℕ) → J u v → (u ≡ v) ⊎ K u v) → Way J a b → Way K a b
-way-map f stay = stay
-way-map {K = K} {a = a} f (onward {b = u} {d = v} w s) =
-    cases s
-    (λ x. cases (f u v x) (λ e. subst (λ (y : ℕ). Way K a y) e (way-map f w)) (λ y. onward (way-map f w) (inl y)))
-    (λ x. cases (f v u x) (λ e. subst (λ (y : ℕ). Way K a y) (sym e) (way-map f w)) (λ y. onward (way-map f w) (inr y)))
-
--- what steps lead out of has none but the start's
-pub way-in : {J : ℕ → ℕ → Type 0} {a b : ℕ} (S : ℕ → Type 0) → S a → ((u v : ℕ) → S u → J u v ⊎ J v u → S v) → Way J a b → S b
-way-in S s f stay = s
-way-in S s f (onward {b = u} {d = v} w j) = f u v (way-in S s f w) j
+use Rattle.groups.specs.Groups.{Tables, Joins, Way, stay, onward, Grouped, Merged}
+use Rattle.groups.proofs.Ways.{way-append, way-turn, way-map}
 
 -- The start
 

@@ -1,20 +1,19 @@
 -- The chain read as a ring, as the code does it, on lists.
 use mathlib.Core.Bool.{Bool, true, false}
 use mathlib.Core.List.{List}
-use mathlib.Core.Logic.{_⊎_, inl, inr, _≢_}
-use mathlib.Core.Path.{_≡_, refl, sym, _∙_, ap, subst}
-use Prim.Native.Nat.{ℕ, zero, suc, _+_, _-_, _*_, _%_, _≤_, _<_}
-use native.Mathlib.Numerals.{add-one}
+use mathlib.Core.Logic.{_≢_}
+use mathlib.Core.Path.{_≡_, sym, _∙_, ap}
+use Prim.Native.Nat.{ℕ, suc, _+_, _-_, _*_, _%_, _≤_, _<_}
 use native.Mathlib.Omega.{arith}
 use lib.Dec.{eqb, leb}
 use lib.ListN.{length, set}
 use borrow.Author.Tests.{eq-eqb, ne-eqb, eqb-true, eqb-false, leb-true, leb-false}
 use Rattle.laws.proofs.Cases.{cases, bool, eq-or}
 use Rattle.groups.specs.Order.{at}
-use Rattle.groups.specs.Calls.{Wide, Past}
+use Rattle.groups.specs.Calls.{Wide}
 use Rattle.groups.specs.Rings.{Lowest, wrap, kindOf, spotOf, linkOf, Spot, Link, Upward, Tracing, TracedLines, TracedKinds}
 use Rattle.groups.proofs.Filling.{Filled, filled-more}
-use Rattle.groups.proofs.Rings.{wrap-low, wrap-high, wrap-within}
+use Rattle.groups.proofs.Circles.{wrap-low, wrap-high, wrap-within}
 
 -- Places round the circle
 

@@ -1,22 +1,22 @@
 -- From a conflict to a ring: the chain from d to b and the step from b back to d are a circle, of which that step alone does not agree with the
 -- parities; and between different lines the steps are constraints taken in.
-use mathlib.Core.Bool.{Bool, true, false, cond}
+use mathlib.Core.Bool.{Bool, true, false}
 use mathlib.Core.List.{List}
-use mathlib.Core.Logic.{_⊎_, inl, inr, _≢_}
-use mathlib.Core.Path.{_≡_, refl, sym, _∙_, ap, subst}
-use Prim.Native.Nat.{ℕ, zero, suc, _+_, _-_, _%_, _≤_, _<_}
+use mathlib.Core.Logic.{inl, inr}
+use mathlib.Core.Path.{_≡_, sym, _∙_, ap}
+use Prim.Native.Nat.{ℕ, suc, _+_, _-_, _%_, _≤_, _<_}
 use native.Mathlib.Omega.{arith}
-use lib.Dec.{eqb}
 use borrow.Author.Tests.{eq-eqb, ne-eqb}
 use Rattle.laws.proofs.Cases.{cases, eq-or, lt-or}
 use Rattle.groups.specs.Order.{at}
-use Rattle.groups.specs.Constraints.{Constraints, Between, More, Even, BackLine, Ring}
-use Rattle.groups.specs.Groups.{Tables, Joins, Way, Grouped}
+use Rattle.groups.specs.Constraints.{Constraints, Between, More, BackLine, Ring}
+use Rattle.groups.specs.Groups.{Tables, Grouped}
 use Rattle.groups.specs.Calls.{joined}
-use Rattle.groups.specs.Rings.{Drawn, Torn, Step, Chain, Lowest, wrap, kindOf, spotOf, linkOf, Upward, TracedLines, TracedKinds, Shown}
+use Rattle.groups.specs.Rings.{Drawn, Torn, Chain, Lowest, wrap, kindOf, spotOf, linkOf, Upward, TracedLines, TracedKinds, Shown}
 use Rattle.groups.specs.declared.Joining.the-variants.{Conflicts}
-use Rattle.groups.proofs.Groups.{way-append, way-turn}
-use Rattle.groups.proofs.Rings.{wrap-low, wrap-high, wrap-within, Hop, Circle, up-ring, down-ring, ring-map, ring-agree}
+use Rattle.groups.proofs.Ways.{way-append, way-turn}
+use Rattle.groups.proofs.Rings.{ring-map, ring-agree}
+use Rattle.groups.proofs.Circles.{wrap-low, wrap-high, Hop, Circle, up-ring, down-ring}
 
 kind-last : (parity line : ℕ → ℕ) (n k i : ℕ) → suc i ≡ n → kindOf parity line n k i ≡ k
 unfolding kindOf

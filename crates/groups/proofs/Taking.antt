@@ -1,18 +1,13 @@
 -- Taking in a constraint, as the code does it: the tables before and after, by the answer.
-use mathlib.Core.Bool.{Bool, true, false}
 use mathlib.Core.List.{List}
-use mathlib.Core.Logic.{_⊎_, inl, inr, _≢_}
-use mathlib.Core.Path.{_≡_, refl, sym, _∙_, ap, subst}
-use Prim.Native.Nat.{ℕ, suc, _+_, _%_, _≤_, _<_}
+use mathlib.Core.Logic.{inl, inr, _≢_}
+use mathlib.Core.Path.{_≡_, refl}
+use Prim.Native.Nat.{ℕ, _+_, _%_, _≤_, _<_}
 use native.Mathlib.Omega.{arith}
-use lib.ListN.{length, set}
-use Rattle.laws.proofs.Cases.{cases, true-false}
+use lib.ListN.{set}
 use Rattle.groups.specs.Order.{at}
-use Rattle.groups.specs.Constraints.{Constraints, More, Even, Keeps, BackLine}
-use Rattle.groups.specs.Groups.{Tables, tables, Grouped, Relabelled, Merged}
-use Rattle.groups.specs.Calls.{Wide, Room, Started, Joinable, Mergeable, Joined, joined}
-use Rattle.groups.specs.declared.Joining.the-variants.{Agrees, Conflicts, Joins}
-use Rattle.groups.proofs.Groups.{Begun, None, grouped-none, grouped-agrees, grouped-joined, conflict}
+use Rattle.groups.specs.Groups.{tables, Relabelled, Merged}
+use Rattle.groups.specs.Calls.{Wide, Joinable, Mergeable, Joined}
 use Rattle.groups.proofs.Filling.{put-at}
 
 -- The code

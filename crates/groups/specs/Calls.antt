@@ -7,7 +7,7 @@ use Prim.Native.Nat.{ℕ, _+_, _%_, _≤_, _<_}
 use lib.ListN.{length}
 use Rattle.groups.specs.Order.{at, Agree}
 use Rattle.groups.specs.Constraints.{Even}
-use Rattle.groups.specs.Groups.{Tables, tables, Relabelled, Merged, Turned, Pivot, NoPivot}
+use Rattle.groups.specs.Groups.{Tables, Merged, Turned, Pivot, NoPivot}
 use Rattle.groups.specs.declared.Joining.{Joining}
 use Rattle.groups.specs.declared.Joining.the-variants.{Agrees, Conflicts, Joins}
 

@@ -1,13 +1,13 @@
 -- Groups of back lines that constraints hold together, in tables. Of each group one line, the lowest, leads.
 -- A constraint is taken in by joining the groups of its two lines: the group of the higher leader is given to the lower one.
-use mathlib.Core.Bool.{Bool, true, false, cond}
+use mathlib.Core.Bool.{Bool, false, cond}
 use mathlib.Core.List.{List}
 use mathlib.Core.Logic.{_⊎_}
 use mathlib.Core.Path.{_≡_}
-use Prim.Native.Nat.{ℕ, zero, suc, _+_, _-_, _%_, _≤_, _<_}
+use Prim.Native.Nat.{ℕ, _+_, _-_, _%_, _≤_, _<_}
 use lib.Dec.{eqb, leb}
 use Rattle.laws.specs.Tests.{both, all}
-use Rattle.groups.specs.Order.{at, Agree}
+use Rattle.groups.specs.Order.{at}
 use Rattle.groups.specs.Constraints.{Constraints, Even, Keeps, BackLine}
 
 -- By lines: the leader of its group; its side where the leader is left, with 2 at a tree line; and the two lines of the constraint that joined

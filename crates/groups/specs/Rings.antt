@@ -8,7 +8,7 @@ use Prim.Native.Nat.{ℕ, suc, _+_, _-_, _%_, _≤_, _<_}
 use lib.Dec.{eqb, ltb}
 use lib.ListN.{length}
 use Rattle.groups.specs.Order.{at}
-use Rattle.groups.specs.Constraints.{Constraints, Between, Even, Ring}
+use Rattle.groups.specs.Constraints.{Constraints, Between, Ring}
 use Rattle.groups.specs.Groups.{Joins, Way}
 use Rattle.groups.specs.Calls.{Past}
 

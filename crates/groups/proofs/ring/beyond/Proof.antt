@@ -1,6 +1,5 @@
 -- `beyond` computes its definition.
 use Rattle.groups.proofs.Steps.{beyond-from, beyond-to, beyond-none}
-use borrow.Author.Needs.{needs}
 use Rattle.groups.proofs.ring.beyond.Statement.{statement}
 use Rattle.groups.proofs.ring.beyond.Tie as tie
 

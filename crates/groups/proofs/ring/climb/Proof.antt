@@ -1,5 +1,5 @@
 -- `climb` goes from each line to the one that it was reached from; places fall.
-use Rattle.groups.proofs.Steps.{Climbs, climbs-start, chain-room, via-falls, via-inside, via-fits, climbs-more, trail}
+use Rattle.groups.proofs.Finding.{Climbs, climbs-start, chain-room, via-falls, via-inside, via-fits, climbs-more, trail}
 use mathlib.Core.Path.{_∙_}
 use lib.ListN.{length-set}
 use borrow.Author.Needs.{needs}

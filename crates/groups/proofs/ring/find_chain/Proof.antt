@@ -1,5 +1,5 @@
 -- `find_chain` floods from b, which reaches d, and climbs back.
-use Rattle.groups.proofs.Steps.{flooding, climbing, chained}
+use Rattle.groups.proofs.Finding.{flooding, climbing, chained}
 use borrow.Author.Needs.{needs}
 use Rattle.groups.proofs.ring.find_chain.Statement.{statement}
 use Rattle.groups.proofs.ring.find_chain.Tie as tie

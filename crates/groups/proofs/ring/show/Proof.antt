@@ -1,5 +1,5 @@
 -- `show` finds the chain and writes it as a ring.
-use Rattle.groups.proofs.Steps.{finding-zeros, writing, ring-written}
+use Rattle.groups.proofs.Finding.{finding-zeros, writing, ring-written}
 use borrow.Author.Needs.{needs}
 use Rattle.groups.proofs.ring.show.Statement.{statement}
 use Rattle.groups.proofs.ring.show.Tie as tie
@@ -10,11 +10,11 @@ slice-aggregate-find-chain c = search needs
 find-chain-requires : tie.Need-find-chain-requires
 find-chain-requires c κs = search finding-zeros
 
-slice-aggregate-write-ring : tie.Need-slice-aggregate-write-ring
-slice-aggregate-write-ring c = search needs
+slice-aggregate-write : tie.Need-slice-aggregate-write
+slice-aggregate-write c = search needs
 
-write-ring-requires : tie.Need-write-ring-requires
-write-ring-requires c κs = search writing
+write-requires : tie.Need-write-requires
+write-requires c κs = search writing
 
 same-length : tie.Need-same-length
 same-length c = search needs
@@ -31,8 +31,8 @@ show-spec =
     (tie.spec
     slice-aggregate-find-chain
     find-chain-requires
-    slice-aggregate-write-ring
-    write-ring-requires
+    slice-aggregate-write
+    write-requires
     same-length
     same-length-2
     returns)
