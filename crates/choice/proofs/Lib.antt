@@ -1,2 +1,4 @@
 pub mod Tying
 pub mod Proper
+pub mod Trying
+pub mod Walking

@@ -27,7 +27,7 @@ use Rattle.groups.specs.Constraints.{Constraints, Between, More, Keeps, BackLin
 use Rattle.groups.specs.Groups.{Tables, Grouped}
 use Rattle.groups.proofs.Groups.{conflict}
 use Rattle.choice.specs.Choice.{Drawable, Proper, Outdone}
-use Rattle.choice.specs.Inside.{Closed, Taken, Together, Tears}
+use Rattle.choice.specs.Inside.{Closed, Taken, Together, Unkept}
 use Rattle.choice.proofs.Tying.{link-back}
 
 -- a ring has a "different"
@@ -65,7 +65,7 @@ module _ (net : Network) (X : Searched (tree-in net)) (t : Tables) (g : Together
 
   -- A link tears
 
-  module _ (b d k : ℕ) (r : Tears S t b d k) where
+  module _ (b d k : ℕ) (r : Unkept S t b d k) where
     none-aligned : (side : ℕ → ℕ) → Aligned S side → ⊥
     none-aligned side a =
         let e = link-back S (r .link) in
