@@ -14,7 +14,7 @@ use borrow.Author.Tests.{le-leb, lt-leb}
 use Rattle.laws.specs.Tests.{either}
 use Rattle.laws.specs.Running.{best}
 use Rattle.laws.proofs.Cases.{cases, bool, true-false, eq-or, lt-or}
-use Rattle.laws.proofs.Tests.{either-first}
+use Rattle.laws.proofs.Tests.{either-first, either-second, either-no}
 use Rattle.laws.proofs.Running.{best-pass, best-start, best-beaten, best-stays}
 use Rattle.tree.specs.Tree.{Tree}
 use Rattle.tree.specs.Returns.{end, returnb}
@@ -46,8 +46,8 @@ best-rather p beats m b t =
     cases (lt-or r m)
     (λ h.
     cases (bool (beats b r))
-    (λ y. best-beaten p beats m b t y ∙ sym (rw (lt-leb m r h, y)))
-    (λ y. best-stays p beats m b h y ∙ sym (rw (lt-leb m r h, y))))
+    (λ y. best-beaten p beats m b t y ∙ sym (rw (either-second (leb m r) (beats b r) y)))
+    (λ y. best-stays p beats m b h y ∙ sym (rw (either-no (lt-leb m r h) y))))
     (λ h. best-start p beats m b t h ∙ sym (rw (either-first (leb m r) (beats b r) (le-leb m r h))))
 
 module _ (S : Tree) (X : Searched S) (few : S .lines ≤ 2048) (live : (f : ℕ) → f < S .lines → S .live f ≡ true)
