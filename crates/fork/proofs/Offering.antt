@@ -62,8 +62,10 @@ module _ (S : Tree) (stops : List ℕ) (s : Table S end stops) (b : ℕ) (b-in :
       cases (lt-or t (S .lines))
       (λ h. rw (s .each b b-in, s .each t h))
       (λ h.
-      rw (either-first (leb (S .lines) t) (ltb (getD stops t 0) (getD stops b 0)) (le-leb (S .lines) t h),
-      either-first (leb (S .lines) t) (ltb (end S t) (end S b)) (le-leb (S .lines) t h)))
+      rw (
+        either-first (leb (S .lines) t) (ltb (getD stops t 0) (getD stops b 0)) (le-leb (S .lines) t h),
+        either-first (leb (S .lines) t) (ltb (end S t) (end S b)) (le-leb (S .lines) t h),
+      ))
 
   rather-by-low : rather-lower (S .lines) stops b t ≡ rather (ends-lower S) (S .lines) b t
   unfolding rather-lower ends-lower
@@ -71,8 +73,10 @@ module _ (S : Tree) (stops : List ℕ) (s : Table S end stops) (b : ℕ) (b-in :
       cases (lt-or t (S .lines))
       (λ h. rw (s .each b b-in, s .each t h))
       (λ h.
-      rw (either-first (leb (S .lines) t) (ltb (getD stops b 0) (getD stops t 0)) (le-leb (S .lines) t h),
-      either-first (leb (S .lines) t) (ltb (end S b) (end S t)) (le-leb (S .lines) t h)))
+      rw (
+        either-first (leb (S .lines) t) (ltb (getD stops b 0) (getD stops t 0)) (le-leb (S .lines) t h),
+        either-first (leb (S .lines) t) (ltb (end S b) (end S t)) (le-leb (S .lines) t h),
+      ))
 
 -- The climb from b has come down to v
 pub record Climbing (S : Tree) (b stop v : ℕ) (tops bottoms : List ℕ) : Type 0 where

@@ -36,6 +36,11 @@ pub record Table (S : Tree) (g : Tree → ℕ → ℕ) (l : List ℕ) : Type 0 w
   pub long : length l ≡ 2048
   pub each : (k : ℕ) → k < S .lines → getD l k 0 ≡ g S k
 
+-- Two tables that have for each line its top and its bottom.
+pub record Extremes (S : Tree) (tops bottoms : List ℕ) : Type 0 where
+  pub each-top : Table S top tops
+  pub each-bottom : Table S bottom bottoms
+
 -- A table that has for each tree line its rival.
 pub record Rivals (S : Tree) (l : List ℕ) : Type 0 where
   pub long : length l ≡ 2048

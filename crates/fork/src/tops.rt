@@ -6,8 +6,7 @@ ghost use lib.ListN.{length, getD, set};
 ghost use Rattle.tree.specs.Tree.{«tree-of»};
 ghost use Rattle.tree.specs.Returns.{end};
 ghost use Rattle.tree.specs.Words.{BackLine};
-ghost use Rattle.fork.specs.Ends.{top, bottom};
-ghost use Rattle.fork.specs.Inside.{Known, Table, source, Rankable, «rather-higher», «rather-lower», Offered, Offerable, Handed};
+ghost use Rattle.fork.specs.Inside.{Known, Table, source, Extremes, Rankable, «rather-higher», «rather-lower», Offered, Offerable, Handed};
 use network::wide;
 
 // The number of lines stands for none.
@@ -30,8 +29,8 @@ pub fn tops(
     requires { ⌜ Known vertices lines (now ends) (now kinds) (now heights) (now parents) ⌝ }
     requires { ⌜ Table (tree-of vertices lines (now ends) (now kinds) (now heights) (now parents)) source (now sources) ⌝ }
     requires { ⌜ Table (tree-of vertices lines (now ends) (now kinds) (now heights) (now parents)) end (now stops) ⌝ }
-    ensures { λ r. ⌜ Table (tree-of vertices lines (now (ends .entry)) (now (kinds .entry)) (now (heights .entry)) (now (parents .entry))) top (r .tops)
-        × Table (tree-of vertices lines (now (ends .entry)) (now (kinds .entry)) (now (heights .entry)) (now (parents .entry))) bottom (r .bottoms) ⌝ }
+    ensures { λ r. ⌜ Extremes (tree-of vertices lines (now (ends .entry)) (now (kinds .entry)) (now (heights .entry)) (now (parents .entry)))
+        (r .tops) (r .bottoms) ⌝ }
 {
     let none = lines as u16;
     let mut tops = [none; 2048];
