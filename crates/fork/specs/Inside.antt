@@ -14,6 +14,7 @@ use Rattle.tree.specs.Words.{TreeLine}
 use Rattle.tree.specs.Grown.{Grown}
 use Rattle.fork.specs.Ends.{high, top, bottom}
 use Rattle.fork.specs.Link.{rival, ends-higher, ends-lower}
+use Rattle.fork.specs.declared.Forks.{Forks}
 
 -- The tables are those of a finished search: within the limits, grown, and every line a tree line or a back line.
 pub record Known (n m : ℕ) (ends kinds heights parents : List ℕ) : Type 0 where
@@ -35,10 +36,25 @@ pub record Table (S : Tree) (g : Tree → ℕ → ℕ) (l : List ℕ) : Type 0 w
   pub long : length l ≡ 2048
   pub each : (k : ℕ) → k < S .lines → getD l k 0 ≡ g S k
 
+-- Two tables that have for each line its top and its bottom.
+pub record Extremes (S : Tree) (tops bottoms : List ℕ) : Type 0 where
+  pub each-top : Table S top tops
+  pub each-bottom : Table S bottom bottoms
+
 -- A table that has for each tree line its rival.
 pub record Rivals (S : Tree) (l : List ℕ) : Type 0 where
   pub long : length l ≡ 2048
   pub each : (f : ℕ) → TreeLine S f → getD l f 0 ≡ rival S f
+
+-- What each line's returns are like. (A top or a bottom that is the number of lines means: no return.)
+pub record Tabled (S : Tree) (r : Forks) : Type 0 where
+  pub sources : Table S source (r .sources)
+  pub ends : Table S end (r .ends)
+  pub tops : Table S top (r .tops)
+  pub bottoms : Table S bottom (r .bottoms)
+  pub lows : Table S low (r .lows)
+  pub highs : Table S high (r .highs)
+  pub rivals : Rivals S (r .rivals)
 
 -- The two ends of line k stand in the list, and are vertices.
 pub record Placed (ends heights : List ℕ) (k : ℕ) : Type 0 where

@@ -8,3 +8,4 @@ pub mod Filling
 pub mod Greatest
 pub mod Wherever
 pub mod Running
+pub mod Eachwise
