@@ -2,3 +2,4 @@ pub mod Tying
 pub mod Proper
 pub mod Trying
 pub mod Walking
+pub mod Crossing

@@ -6,7 +6,7 @@ use Prim.Native.Nat.{ℕ, _+_, _%_, _≤_, _<_}
 use lib.ListN.{getD, length}
 use Rattle.tree.specs.Tree.{Tree}
 use Rattle.tree.specs.Returns.{backb, end, low}
-use Rattle.tree.specs.Words.{TreeLine, BackLine, Return}
+use Rattle.tree.specs.Words.{Line, TreeLine, BackLine, Return}
 use Rattle.fork.specs.Ends.{Lowest, high, top, bottom}
 use Rattle.fork.specs.Fork.{Fork}
 use Rattle.fork.specs.Link.{Link, Held, Overlap}
@@ -81,7 +81,7 @@ TiedBottom lines f b stops lows bottoms t t′ r =
 -- The link of the tops of two lines of a fork.
 abbrev pub TiedTops : ℕ → ℕ → ℕ → List ℕ → List ℕ → List ℕ → List ℕ → Tables → Tables → Tie → Type 0
 TiedTops lines f g sources lows highs tops t t′ r =
-    (S : Tree) → S .lines ≡ lines → TreeLine S f → Table S source sources → Table S low lows → Table S high highs → Table S top tops → Together S t
+    (S : Tree) → S .lines ≡ lines → TreeLine S f → Line S g → Table S source sources → Table S low lows → Table S high highs → Table S top tops → Together S t
     → Outcome S t t′ (Fork S f g → Overlap S f g → Closed t′ (top S f) (top S g) 1) r
 
 -- What the ties go by: of each line the height at which it ends, its low, its rival, its top and its bottom.
@@ -122,3 +122,32 @@ pub record Started (S : Tree) (b : ℕ) (leader parity from to : List ℕ) : Typ
   pub back-line : BackLine S b
   pub groups : Together S (tables leader parity from to)
   pub tied : ReturnsTied S (tables leader parity from to) (λ f c. c < b)
+
+-- The tables that forks go by.
+pub record Crossed (S : Tree) (sources lows highs tops : List ℕ) : Type 0 where
+  pub each-source : Table S source sources
+  pub each-low : Table S low lows
+  pub each-high : Table S high highs
+  pub each-top : Table S top tops
+
+-- Tree line f and line g of some tree, whose tables are given.
+pub record Pairing (lines f g : ℕ) (sources lows highs tops leader parity from to : List ℕ) : Type 0 where
+  pub tree : Tree
+  pub same-lines : tree .lines ≡ lines
+  pub tree-line : TreeLine tree f
+  pub line : Line tree g
+  pub crossed : Crossed tree sources lows highs tops
+  pub groups : Together tree (tables leader parity from to)
+  pub room : Room lines leader parity from to
+
+-- The forks of the lines below f are tied.
+pub record Forking (S : Tree) (f : ℕ) (leader parity from to : List ℕ) : Type 0 where
+  pub room : Room (S .lines) leader parity from to
+  pub tree-line : TreeLine S f
+  pub groups : Together S (tables leader parity from to)
+  pub tied : ForksTied S (tables leader parity from to) (λ a g. a < f)
+
+-- The groups, with nothing said of what is tied.
+pub record Begun (S : Tree) (leader parity from to : List ℕ) : Type 0 where
+  pub room : Room (S .lines) leader parity from to
+  pub groups : Together S (tables leader parity from to)

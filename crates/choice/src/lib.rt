@@ -1,4 +1,5 @@
 // Left and right: the first aligned choice of a network, and the next one after a given one.
+mod forks;
 mod ties;
 mod ways;
 
