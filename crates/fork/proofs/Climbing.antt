@@ -2,12 +2,10 @@
 -- a vertex higher than its end. A line that the climb has yet to come to has the best of the back lines before; every other has this one weighed in.
 use mathlib.Core.Bool.{Bool, true, false, cond}
 use mathlib.Core.List.{List}
-use mathlib.Core.Logic.{_≢_}
-use mathlib.Core.Path.{_≡_, refl, sym, _∙_, ap, subst}
-use Prim.Native.Nat.{ℕ, suc, _+_, _≤_, _<_}
-use native.Mathlib.Numerals.{add-one}
+use mathlib.Core.Path.{_≡_, sym, _∙_, ap, subst}
+use Prim.Native.Nat.{ℕ, suc, _≤_, _<_}
 use native.Mathlib.Omega.{arith}
-use lib.Dec.{ltb, leb}
+use lib.Dec.{leb}
 use lib.ListN.{length, getD, set, length-set}
 use lib.Seq.{getD-set-same, getD-set-other}
 use borrow.Author.Tests.{le-leb, lt-leb}
@@ -22,7 +20,7 @@ use Rattle.tree.specs.Words.{TreeLine, BackLine, Above, Return}
 use Rattle.tree.proofs.Searched.{Searched}
 use Rattle.tree.proofs.Returns.{return-yes, return-of, return-self, return-back}
 use Rattle.fork.specs.Inside.{Standing}
-use Rattle.fork.proofs.Found.{way-return, way-down, way-only, way-high, way-low}
+use Rattle.fork.proofs.Found.{way-return, way-only, way-high, way-low}
 
 -- b is a return of tree line f, and a climb that has come down to v has yet to come to f
 pub record Pending (S : Tree) (b v f : ℕ) : Type 0 where

@@ -1,17 +1,14 @@
 -- Low and high from bottom and top: where a line has a return, low is where its bottom ends and high where its top ends; and the loops that say so.
-use mathlib.Core.Bool.{Bool, true, false}
 use mathlib.Core.List.{List}
-use mathlib.Core.Path.{_≡_, refl, sym, _∙_, ap}
+use mathlib.Core.Path.{_≡_, sym, _∙_, ap}
 use Prim.Native.Nat.{ℕ, _+_, _≤_, _<_}
 use native.Mathlib.Omega.{arith}
-use lib.ListN.{length, getD, set}
-use borrow.Author.Tests.{lt-ltb}
+use lib.ListN.{getD, set}
 use Rattle.laws.proofs.Cases.{cases, lt-or}
 use Rattle.laws.proofs.Tests.{least-cases}
 use Rattle.laws.proofs.Eachwise.{eachwise-more}
 use Rattle.tree.specs.Tree.{Tree, tree-of}
 use Rattle.tree.specs.Returns.{end, low}
-use Rattle.tree.specs.Words.{Line}
 use Rattle.tree.proofs.Grown.{lines-in}
 use Rattle.tree.proofs.Returns.{low-cases}
 use Rattle.fork.specs.Ends.{high, highestb, lowestb, top, bottom}

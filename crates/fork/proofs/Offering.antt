@@ -1,15 +1,14 @@
 -- The climb in the code's terms: what it asks of `offer` and of each table, and what it leaves.
-use mathlib.Core.Bool.{Bool, true, false, cond}
+use mathlib.Core.Bool.{true}
 use mathlib.Core.List.{List}
-use mathlib.Core.Path.{_≡_, refl, sym, _∙_, ap, subst}
-use Prim.Native.Nat.{ℕ, suc, _+_, _*_, _≤_, _<_}
+use mathlib.Core.Path.{_≡_, _∙_, ap}
+use Prim.Native.Nat.{ℕ, suc, _+_, _≤_, _<_}
 use native.Mathlib.Numerals.{add-one}
 use native.Mathlib.Omega.{arith}
 use lib.Dec.{ltb, leb}
-use lib.ListN.{length, getD, set}
+use lib.ListN.{getD, set}
 use borrow.Author.Tests.{le-leb, lt-leb, lt-ltb, le-ltb}
-use Rattle.laws.specs.Tests.{either}
-use Rattle.laws.proofs.Cases.{cases, bool, lt-or}
+use Rattle.laws.proofs.Cases.{cases, lt-or}
 use Rattle.laws.proofs.Tests.{either-first, either-second, either-no}
 use Rattle.tree.specs.Tree.{Tree, tree-of}
 use Rattle.tree.specs.Returns.{end}
@@ -17,7 +16,7 @@ use Rattle.tree.specs.Words.{Line, TreeLine, BackLine, Above}
 use Rattle.tree.proofs.Searched.{Searched}
 use Rattle.tree.proofs.Grown.{searched}
 use Rattle.fork.specs.Link.{ends-higher, ends-lower}
-use Rattle.fork.specs.Inside.{Known, Table, source, rather-higher, rather-lower, Rankable, Offerable, Handed, Standing, Offered}
+use Rattle.fork.specs.Inside.{Known, Table, source, rather-higher, rather-lower, Offerable, Handed, Offered}
 use Rattle.fork.proofs.Found.{way-return, way-down}
 use Rattle.fork.proofs.Climbing.{rather, Weighing, weighing-start, weighing-more, weighing-done}
 

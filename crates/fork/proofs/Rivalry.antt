@@ -1,21 +1,19 @@
 -- The rival of a tree line, as a loop over the lines finds it: the least so far of the lows of the others that leave where it leaves.
-use mathlib.Core.Bool.{Bool, true, false, not}
+use mathlib.Core.Bool.{true, false, not}
 use mathlib.Core.List.{List}
-use mathlib.Core.Path.{_≡_, refl, sym, _∙_, ap}
+use mathlib.Core.Path.{_≡_, sym, _∙_, ap}
 use Prim.Native.Nat.{ℕ, min, _+_, _≤_, _<_}
 use native.Mathlib.Numerals.{add-one}
 use native.Mathlib.Omega.{arith}
-use lib.Dec.{eqb}
-use lib.ListN.{length, getD, set}
+use lib.ListN.{getD, set}
 use borrow.Author.Tests.{lt-ltb, eq-eqb, ne-eqb, eqb-true}
-use Rattle.laws.specs.Tests.{both}
 use Rattle.laws.specs.Running.{minimum}
 use Rattle.laws.proofs.Tests.{both-yes, both-no-first, both-no-second}
 use Rattle.laws.proofs.Running.{minimum-yes, minimum-no}
 use Rattle.laws.proofs.Eachwise.{Eachwise, eachwise-more, eachwise-pass}
 use Rattle.tree.specs.Tree.{Tree, tree-of}
 use Rattle.tree.specs.Returns.{low}
-use Rattle.tree.specs.Words.{Line, TreeLine}
+use Rattle.tree.specs.Words.{TreeLine}
 use Rattle.fork.specs.Fork.{forkb}
 use Rattle.fork.specs.Link.{rival}
 use Rattle.fork.specs.Inside.{Known, Table, source, Rivals}

@@ -1,14 +1,11 @@
 -- Where a line starts and how high it ends, as the loops over the lines find it: from the higher and the lower of its ends.
-use mathlib.Core.Bool.{Bool, true, false}
 use mathlib.Core.List.{List}
-use mathlib.Core.Path.{_≡_, refl, sym, _∙_, ap}
-use Prim.Native.Nat.{ℕ, suc, _+_, _*_, _≤_, _<_}
+use mathlib.Core.Path.{_≡_, ap}
+use Prim.Native.Nat.{ℕ, _+_, _*_, _≤_, _<_}
 use native.Mathlib.Omega.{arith}
-use lib.Dec.{eqb, ltb}
-use lib.ListN.{length, getD, set, replicate}
+use lib.ListN.{getD, set}
 use borrow.Author.Tests.{eq-eqb, ne-eqb, lt-ltb, le-ltb}
-use Rattle.laws.proofs.Eachwise.{Eachwise, eachwise-start, eachwise-more}
-use Rattle.network.specs.Network.{first, second}
+use Rattle.laws.proofs.Eachwise.{Eachwise, eachwise-more}
 use Rattle.tree.specs.Tree.{Tree, higher, lower, tree-of}
 use Rattle.tree.specs.Returns.{end}
 use Rattle.fork.specs.Inside.{Known, Table, source, Placed, Higher, Lower}

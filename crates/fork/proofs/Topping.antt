@@ -1,19 +1,19 @@
 -- The loop over the back lines: after those below b, each line's top and bottom are the best of them; after all, they are top and bottom.
-use mathlib.Core.Bool.{Bool, true, false, not}
+use mathlib.Core.Bool.{Bool, false}
 use mathlib.Core.List.{List}
 use mathlib.Core.Logic.{_≢_}
-use mathlib.Core.Path.{_≡_, refl, sym, _∙_, ap, subst}
-use Prim.Native.Nat.{ℕ, suc, _+_, _≤_, _<_}
+use mathlib.Core.Path.{_≡_, sym, _∙_, subst}
+use Prim.Native.Nat.{ℕ, _+_, _≤_, _<_}
 use native.Mathlib.Numerals.{add-one}
 use native.Mathlib.Omega.{arith}
-use lib.ListN.{length, getD, replicate, length-replicate, getD-replicate}
-use borrow.Author.Tests.{lt-ltb, ne-eqb, eqb-false, eq-eqb}
+use lib.ListN.{getD, replicate, length-replicate, getD-replicate}
+use borrow.Author.Tests.{lt-ltb, ne-eqb, eqb-false}
 use Rattle.laws.specs.Running.{best}
 use Rattle.laws.proofs.Cases.{cases, bool}
 use Rattle.laws.proofs.Running.{best-pass}
 use Rattle.tree.specs.Tree.{Tree, tree-of}
 use Rattle.tree.specs.Returns.{returnb}
-use Rattle.tree.specs.Words.{Line, BackLine}
+use Rattle.tree.specs.Words.{BackLine}
 use Rattle.tree.proofs.Returns.{return-of}
 use Rattle.fork.specs.Ends.{top, bottom}
 use Rattle.fork.specs.Link.{ends-higher, ends-lower}

@@ -1,7 +1,5 @@
 // How low and how high the returns of each line end.
-ghost use mathlib.Core.Path.{_≡_};
-ghost use Prim.Native.Nat.{ℕ, _+_, _≤_, _<_};
-ghost use lib.ListN.{length, getD};
+ghost use Prim.Native.Nat.{_+_, _<_};
 ghost use Rattle.tree.specs.Tree.{«tree-of»};
 ghost use Rattle.tree.specs.Returns.{end, low};
 ghost use Rattle.fork.specs.Ends.{high, top, bottom};

@@ -1,10 +1,8 @@
 // How low the returns of a tree line's rivals end: of the other lines that leave where it leaves.
 ghost use mathlib.Core.Path.{_≡_};
-ghost use Prim.Native.Nat.{ℕ, _+_, _≤_, _<_};
-ghost use lib.ListN.{length, getD};
+ghost use Prim.Native.Nat.{_+_, _<_};
 ghost use Rattle.tree.specs.Tree.{«tree-of»};
 ghost use Rattle.tree.specs.Returns.{low};
-ghost use Rattle.tree.specs.Words.{TreeLine};
 ghost use Rattle.fork.specs.Link.{rival};
 ghost use Rattle.fork.specs.Inside.{Known, Table, source, Rivals};
 use network::wide;

@@ -1,7 +1,5 @@
 // Where each line starts, and how high it ends. A tree line goes up from the lower of its ends, a back line down from the higher.
-ghost use mathlib.Core.Path.{_≡_};
-ghost use Prim.Native.Nat.{ℕ, _+_, _*_, _≤_, _<_};
-ghost use lib.ListN.{length, getD};
+ghost use Prim.Native.Nat.{_+_, _*_, _<_};
 ghost use Rattle.tree.specs.Tree.{«tree-of»};
 ghost use Rattle.tree.specs.Returns.{end};
 ghost use Rattle.fork.specs.Inside.{Known, Table, source, Placed, Higher, Lower};

@@ -1,8 +1,7 @@
 // Of each line's returns one that ends highest and one that ends lowest. Each back line is offered to the lines that it is a return of: itself, and
 // the tree lines on its way down as far as they leave vertices higher than its end.
 ghost use mathlib.Core.Path.{_≡_};
-ghost use Prim.Native.Nat.{ℕ, _+_, _≤_, _<_};
-ghost use lib.ListN.{length, getD, set};
+ghost use Prim.Native.Nat.{_+_, _<_};
 ghost use Rattle.tree.specs.Tree.{«tree-of»};
 ghost use Rattle.tree.specs.Returns.{end};
 ghost use Rattle.tree.specs.Words.{BackLine};
