@@ -1,0 +1,3 @@
+-- A network as text, and what read and write say.
+pub mod Text
+pub mod Calls
