@@ -1,1 +1,4 @@
 pub mod Trials
+pub mod Digits
+pub mod Frames
+pub mod Form
