@@ -147,5 +147,5 @@ frames-numbers (suc m) t e g =
     whole last =
         let eight : drop 8 t ≡ feed ∷ drop 9 t = drop-cons t 8 0 (omega arith) ∙ ap (λ z. z ∷ drop 9 t) last in
         let four : take 4 (drop 4 t) ++ (feed ∷ drop 9 t) ≡ drop 4 t =
-            ap (λ z. take 4 (drop 4 t) ++ z) (sym eight ∙ sym (drop-drop 4 4 t)) ∙ take-append-drop 4 (drop 4 t) in
+        ap (λ z. take 4 (drop 4 t) ++ z) (sym eight ∙ sym (drop-drop 4 4 t)) ∙ take-append-drop 4 (drop 4 t) in
         ap (λ z. take 4 t ++ z) four ∙ take-append-drop 4 t
