@@ -14,7 +14,7 @@ use Rattle.network.specs.declared.Answer.{Answer}
 use Rattle.network.proofs.Checks.{sized, even, none-astray}
 use Rattle.text.specs.Text.{room, text-of, vertices-in, lines-in, ends-in, has-form}
 use Rattle.text.specs.Calls.{begun, Read, Write}
-use Rattle.text.proofs.Form.{Form, form-of, length-ends-in, text-again, length-text, lines-again, vertices-again, ends-again, text-has-form}
+use Rattle.text.proofs.TextBack.{form-of, length-ends-in, text-again, length-text, lines-again, vertices-again, ends-again, text-has-form}
 use Rattle.text.proofs.Accepted.{formed-once, checked-once, Sound, sound-inside, Accepts, Took, read-done, read-accepts, Grants, Gave, write-done, write-grants}
 
 -- Two results that one statement allows are equal

@@ -1,6 +1,7 @@
 pub mod Trials
-pub mod Digits
-pub mod Frames
-pub mod Form
+pub mod DigitsBack
+pub mod FramesBack
+pub mod TextBack
+pub mod Words
 pub mod Accepted
 pub mod Calls

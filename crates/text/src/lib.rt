@@ -1,1 +1,2 @@
 // A network as text: read and write.
+mod digits;

@@ -12,13 +12,10 @@ use Rattle.laws.specs.Tests.{both, all}
 use Rattle.laws.proofs.Cases.{cases, bool, true-false}
 use Rattle.laws.proofs.Tests.{both-yes, both-of, both-no-first, both-no-second, all-of, all-yes}
 use Rattle.text.specs.Text.{frame, frames, text-of, room, word, numbers, vertices-in, lines-in, ends-in, right, has-form}
-use Rattle.text.proofs.Frames.{frame-first, frame-second, frame-rest, frames-two, length-frames, length-numbers, numbers-frames, frames-right, frames-numbers}
+use Rattle.text.specs.Inside.{Form}
+use Rattle.text.proofs.FramesBack.{frame-first, frame-second, frame-rest, frames-two, length-frames, length-numbers, numbers-frames, frames-right, frames-numbers}
 
 -- The two halves of the form
-
-pub record Form (text : List ℕ) : Type 0 where
-  pub long : length text ≡ room (lines-in text)
-  pub places : (i : ℕ) → i < length text → right text i ≡ true
 
 pub form-of : (text : List ℕ) → has-form text ≡ true → Form text
 unfolding has-form

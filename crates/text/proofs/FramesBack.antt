@@ -12,7 +12,7 @@ use lib.Seq.{length-take-le, take-at, drop-at, drop-cons, drop-drop, getD-take, 
 use borrow.Author.Tests.{eq-eqb, ne-eqb, eqb-true}
 use Rattle.laws.proofs.Cases.{cases, lt-or}
 use Rattle.text.specs.Text.{is-digit, digits, feed, frame, frames, word, numbers, right}
-use Rattle.text.proofs.Digits.{length-digits, digits-are, number-digits, digits-number}
+use Rattle.text.proofs.DigitsBack.{length-digits, digits-are, number-digits, digits-number}
 
 -- What a place should hold
 
