@@ -3,5 +3,7 @@ pub mod DigitsBack
 pub mod FramesBack
 pub mod TextBack
 pub mod Words
+pub mod Places
+pub mod Filling
 pub mod Accepted
 pub mod Calls

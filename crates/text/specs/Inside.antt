@@ -1,11 +1,11 @@
 -- What functions inside ask of each other. A reader of the calls' statements need not believe any of it.
 use mathlib.Core.Bool.{Bool, true}
-use mathlib.Core.List.{List}
+use mathlib.Core.List.{List, _++_}
 use mathlib.Core.Path.{_≡_}
 use Prim.Native.Nat.{ℕ, _+_, _*_, _/_, _≤_, _<_}
-use lib.ListN.{getD, length}
+use lib.ListN.{getD, length, take, drop}
 use Rattle.laws.specs.Tests.{all}
-use Rattle.text.specs.Text.{is-digit, room, lines-in, right}
+use Rattle.text.specs.Text.{is-digit, frames, room, lines-in, right}
 
 -- The next four bytes from a place on are digits.
 unfoldable pub is-word : List ℕ → ℕ → Bool
@@ -38,9 +38,17 @@ pub record Parsable (text : List ℕ) (lines : ℕ) (ends : List ℕ) : Type 0 w
   pub few : lines < 65536
   pub roomy : 2 * lines ≤ length ends
 
+-- Ends in pairs, and room for the text of their lines.
+pub record Roomy (ends text : List ℕ) : Type 0 where
+  pub even : length ends ≡ 2 * (length ends / 2)
+  pub roomy : room (length ends / 2) ≤ length text
+
 -- A network whose numbers have four digits each, and room for its text.
 pub record Writable (n : ℕ) (ends text : List ℕ) : Type 0 where
   pub few-vertices : n < 65536
-  pub even : length ends ≡ 2 * (length ends / 2)
   pub few-lines : length ends / 2 < 65536
-  pub roomy : room (length ends / 2) ≤ length text
+  pub fits : Roomy ends text
+
+-- A buffer after its first frame has been followed by the frames of the first k lines.
+abbrev pub after-first : List ℕ → ℕ → List ℕ → List ℕ
+after-first ends k text = (take 9 text ++ frames (take (2 * k) ends)) ++ drop (room k) text

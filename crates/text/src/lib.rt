@@ -1,2 +1,4 @@
 // A network as text: read and write.
 mod digits;
+mod form;
+mod frames;
