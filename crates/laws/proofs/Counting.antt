@@ -1,12 +1,13 @@
 -- Laws of `many` and `count`. One law does most of the work: where each x that is p has a y of its own that is q, there are not more p than q.
-use mathlib.Core.Bool.{Bool, true, false, cond}
-use mathlib.Core.List.{List, [], _∷_}
+use mathlib.Core.Bool.{Bool, true, false, cond, not}
+use mathlib.Core.List.{List, [], _∷_, _++_}
 use mathlib.Core.Path.{_≡_, refl, sym, _∙_, ap}
 use Prim.Native.Nat.{ℕ, zero, suc, _+_, _≤_, _<_}
 use native.Mathlib.Nat.{le-of-suc-le-suc, not-suc-le-zero}
 use native.Mathlib.Omega.{arith}
 use lib.Dec.{eqb}
 use lib.ListN.{getD, set, length, take, replicate}
+use lib.Seq.{take-suc, getD-take, take-set-lt, length-take-le}
 use borrow.Author.Tests.{eq-eqb, ne-eqb}
 use Rattle.laws.specs.Counting.{bit, many, count}
 use Rattle.laws.proofs.Cases.{cases, bool, eq-or}
@@ -43,6 +44,12 @@ unfolding many
 many-set x y [] i h e d = absurd (not-suc-le-zero h)
 many-set x y (z ∷ l) zero h e d = rw (ne-eqb y x d, eq-eqb z x e) (omega arith)
 many-set x y (z ∷ l) (suc i) h e d = omega (arith, many-set x y l i (le-of-suc-le-suc h) e d)
+
+-- .. among the first n
+pub many-take-set : (x y n : ℕ) (l : List ℕ) (i : ℕ) → n ≤ length l → i < n → getD l i 0 ≡ x → (y ≡ x → ⊥) → suc (many x (take n (set l i y))) ≡ many x (take n l)
+many-take-set x y n l i long h e d =
+    let same : length (take n l) ≡ n = length-take-le n l long in
+    rw (take-set-lt n l i y h) (many-set x y (take n l) i (omega arith) (getD-take n l i 0 h ∙ e) d)
 
 -- count
 
@@ -126,3 +133,35 @@ pub count-eq : (U U′ : ℕ → ℕ → Type 0) (p q : ℕ → Bool) (n m : ℕ
     → ((y y′ x : ℕ) → y < m → y′ < m → U′ y x → U′ y′ x → y ≡ y′)
     → count p n ≡ count q m
 count-eq U U′ p q n m a b c d = omega (arith, count-le U p q n m a b, count-le U′ q p m n c d)
+
+-- those that pass and those that do not are all
+pub count-split : (p : ℕ → Bool) (n : ℕ) → count p n + count (λ x. not (p x)) n ≡ n
+unfolding count
+count-split p zero = refl
+count-split p (suc n) =
+    cases (bool (p n))
+    (λ t. rw t (omega (arith, count-split p n)))
+    (λ f. rw f (omega (arith, count-split p n)))
+
+-- all numbers below n but 0
+pub count-not-zero : (n : ℕ) → 0 < n → suc (count (λ x. not (eqb x 0)) n) ≡ n
+count-not-zero zero h = absurd (omega arith)
+count-not-zero (suc zero) h = unfold count in refl
+count-not-zero (suc (suc n)) h =
+    omega (arith, count-yes (λ x. not (eqb x 0)) (suc n) (ap not (ne-eqb (suc n) 0 (λ e. omega arith))), count-not-zero (suc n) (omega arith))
+
+-- how often x stands among the first n is at how many of the first n places it stands
+many-snoc : (x : ℕ) (l : List ℕ) (y : ℕ) → many x (l ++ (y ∷ [])) ≡ bit (eqb y x) + many x l
+unfolding many
+many-snoc x [] y = refl
+many-snoc x (z ∷ l) y = omega (arith, many-snoc x l y)
+
+pub count-more : (p : ℕ → Bool) (n : ℕ) → count p (suc n) ≡ bit (p n) + count p n
+unfolding count
+count-more p n = refl
+
+pub many-count : (x n : ℕ) (l : List ℕ) → n ≤ length l → many x (take n l) ≡ count (λ i. eqb (getD l i 0) x) n
+many-count x zero l h = many-nil x ∙ sym (count-zero _)
+many-count x (suc n) l h =
+    rw (take-suc l n 0 (omega arith))
+    (omega (arith, many-snoc x (take n l) (getD l n 0), many-count x n l (omega arith), count-more (λ i. eqb (getD l i 0) x) n))

@@ -4,3 +4,7 @@ pub mod Counting
 pub mod Lists
 pub mod Occurring
 pub mod Checks
+pub mod Filling
+pub mod Greatest
+pub mod Wherever
+pub mod Running

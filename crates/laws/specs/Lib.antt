@@ -3,3 +3,4 @@ pub mod Tests
 pub mod Counting
 pub mod Lists
 pub mod Checks
+pub mod Running

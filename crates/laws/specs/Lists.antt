@@ -1,7 +1,8 @@
 -- Lists of numbers.
 use mathlib.Core.Bool.{Bool, cond}
-use mathlib.Core.List.{List, [], _∷_}
+use mathlib.Core.List.{List, [], _∷_, _++_}
 use Prim.Native.Nat.{ℕ, zero, suc}
+use lib.ListN.{take, drop}
 
 -- a, a + 1, .., n of them.
 unfoldable pub from : ℕ → ℕ → List ℕ
@@ -15,3 +16,7 @@ upto n = from 0 n
 unfoldable pub keep : (ℕ → Bool) → List ℕ → List ℕ
 keep p [] = []
 keep p (x ∷ l) = cond (p x) (x ∷ keep p l) (keep p l)
+
+-- A buffer whose first n numbers are those of a table, and whose rest is as it was.
+abbrev pub filled : ℕ → List ℕ → List ℕ → List ℕ
+filled n table old = take n table ++ drop n old

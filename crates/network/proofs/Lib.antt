@@ -1,2 +1,4 @@
 pub mod Checks
 pub mod Pairs
+pub mod Lines
+pub mod Sifting

@@ -136,6 +136,10 @@ module _ (ends : List ℕ) where
   unfolding mispaired
   seen-all seen k s h = sym (any-no _ (length ends / 2) (λ j l. s .clean j (omega arith)))
 
+  pub loop-yes : (k : ℕ) → first ends k ≡ second ends k → looped ends k ≡ true
+  unfolding looped
+  loop-yes k e = eq-eqb _ _ e
+
   pub none-looped : mispaired ends ≡ false → (k : ℕ) → k < length ends / 2 → looped ends k ≡ false
   unfolding mispaired
   none-looped e k h = either-neither (any-none _ (length ends / 2) e k h) .0

@@ -1,6 +1,8 @@
 // The network that every call is given: its limits, the answer with its number, and checks 2 to 5.
 //
 // Its contracts cite specs/Network.antt and specs/Numbers.antt.
+pub mod copies;
+
 ghost use mathlib.Core.Path.{_≡_};
 ghost use Prim.Native.Nat.{ℕ, _+_, _*_, _/_, _≤_, _<_};
 ghost use lib.ListN.{length, getD};

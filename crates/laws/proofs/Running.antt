@@ -1,0 +1,205 @@
+-- What a loop finds is what the list of those that pass has: its least, its greatest; and the best is the first that none beats. By the steps of the
+-- loop, each an equation.
+use mathlib.Core.Bool.{Bool, true, false}
+use mathlib.Core.List.{map, foldr}
+use mathlib.Core.Logic.{_⊎_, inl, inr, _≢_}
+use mathlib.Core.Path.{_≡_, refl, _∙_, ap, subst}
+use Prim.Native.Nat.{ℕ, zero, suc, _+_, _≤_, _<_, min, max}
+use native.Mathlib.Omega.{arith}
+use lib.Dec.{leb}
+use borrow.Author.Tests.{le-leb, lt-leb}
+use Rattle.laws.specs.Tests.{either}
+use Rattle.laws.specs.Counting.{many}
+use Rattle.laws.specs.Lists.{from, keep}
+use Rattle.laws.specs.Running.{minimum, maximum, best}
+use Rattle.laws.proofs.Cases.{cases, bool, true-false, eq-or, lt-or}
+use Rattle.laws.proofs.Tests.{both-yes, both-no-first, both-no-second, either-first, either-second, either-no}
+use Rattle.laws.proofs.Lists.{all-keep, all-kept, all-both, all-many, from-in, from-all, min-le, min-in, min-most}
+use Rattle.laws.proofs.Occurring.{many-keep-yes}
+use Rattle.laws.proofs.Greatest.{max-le, max-in, max-least}
+
+-- The numbers below n that pass
+
+module _ (p : ℕ → Bool) (n : ℕ) where
+  pub kept-in : (x : ℕ) → x < n → p x ≡ true → 0 < many x (keep p (from 0 n))
+  kept-in x h t = omega (arith, many-keep-yes p x (from 0 n) t, from-in 0 n x (omega arith) (omega arith))
+
+  pub kept-of : (x : ℕ) → 0 < many x (keep p (from 0 n)) → (x < n) × (p x ≡ true)
+  kept-of x h =
+      let q = all-many (λ y. (y < 0 + n) × (p y ≡ true)) x (keep p (from 0 n))
+      (all-both (λ y. y < 0 + n) (λ y. p y ≡ true) (keep p (from 0 n)) (all-keep (λ y. y < 0 + n) p (from 0 n) (from-all 0 n)) (all-kept p (from 0 n))) h in
+      (omega (arith, q .0), q .1)
+
+module _ (p : ℕ → Bool) (g : ℕ → ℕ) (z : ℕ) where
+  -- The least
+
+  pub minimum-yes : (n : ℕ) → p n ≡ true → minimum p g z (suc n) ≡ min (g n) (minimum p g z n)
+  unfolding minimum
+  minimum-yes n t = rw t
+
+  pub minimum-no : (n : ℕ) → p n ≡ false → minimum p g z (suc n) ≡ minimum p g z n
+  unfolding minimum
+  minimum-no n f = rw f
+
+  minimum-nil : minimum p g z 0 ≡ z
+  unfolding minimum
+  minimum-nil = refl
+
+  pub minimum-le : (n x : ℕ) → x < n → p x ≡ true → minimum p g z n ≤ g x
+  minimum-le zero x h t = absurd (omega arith)
+  minimum-le (suc n) x h t =
+      cases (eq-or x n)
+      (λ e. let q : g x ≡ g n = ap g e in omega (arith, minimum-yes n (subst (λ y. p y ≡ true) e t)))
+      (λ d.
+      let d′ : x ≢ n = d in
+      let r = minimum-le n x (omega arith) t in
+      cases (bool (p n)) (λ y. omega (arith, minimum-yes n y)) (λ f. omega (arith, minimum-no n f)))
+
+  pub minimum-most : (n : ℕ) → minimum p g z n ≤ z
+  minimum-most zero = omega (arith, minimum-nil)
+  minimum-most (suc n) = cases (bool (p n)) (λ y. omega (arith, minimum-yes n y, minimum-most n)) (λ f. omega (arith, minimum-no n f, minimum-most n))
+
+  pub minimum-in : (n : ℕ) → ((x : ℕ) × (x < n) × (p x ≡ true) × (g x ≡ minimum p g z n)) ⊎ (minimum p g z n ≡ z)
+  minimum-in zero = inr minimum-nil
+  minimum-in (suc n) =
+      cases (bool (p n))
+      (λ t.
+      let s = minimum-yes n t in
+      cases (lt-or (g n) (minimum p g z n))
+      (λ h. inl (n, omega arith, t, omega arith))
+      (λ h. cases (minimum-in n) (λ r. inl (r .0, omega (arith, r .1), r .2, omega (arith, r .3))) (λ e. inr (omega arith))))
+      (λ f.
+      let s = minimum-no n f in
+      cases (minimum-in n) (λ r. inl (r .0, omega (arith, r .1), r .2, omega (arith, r .3))) (λ e. inr (omega arith)))
+
+  pub minimum-is : (n : ℕ) → foldr min z (map g (keep p (from 0 n))) ≡ minimum p g z n
+  minimum-is n =
+      let l = keep p (from 0 n) in
+      let a : foldr min z (map g l) ≤ minimum p g z n =
+      cases (minimum-in n) (λ r. omega (arith, min-le g z (r .0) l (kept-in p n (r .0) (r .1) (r .2)), r .3)) (λ e. omega (arith, min-most g z l)) in
+      let b : minimum p g z n ≤ foldr min z (map g l) =
+      cases (min-in g z l) (λ r. let q = kept-of p n (r .0) (r .1) in omega (arith, minimum-le n (r .0) (q .0) (q .1), r .2)) (λ e. omega (arith, minimum-most n)) in
+      omega arith
+
+  -- The greatest
+
+  pub maximum-yes : (n : ℕ) → p n ≡ true → maximum p g z (suc n) ≡ max (g n) (maximum p g z n)
+  unfolding maximum
+  maximum-yes n t = rw t
+
+  pub maximum-no : (n : ℕ) → p n ≡ false → maximum p g z (suc n) ≡ maximum p g z n
+  unfolding maximum
+  maximum-no n f = rw f
+
+  maximum-nil : maximum p g z 0 ≡ z
+  unfolding maximum
+  maximum-nil = refl
+
+  pub maximum-le : (n x : ℕ) → x < n → p x ≡ true → g x ≤ maximum p g z n
+  maximum-le zero x h t = absurd (omega arith)
+  maximum-le (suc n) x h t =
+      cases (eq-or x n)
+      (λ e. let q : g x ≡ g n = ap g e in omega (arith, maximum-yes n (subst (λ y. p y ≡ true) e t)))
+      (λ d.
+      let d′ : x ≢ n = d in
+      let r = maximum-le n x (omega arith) t in
+      cases (bool (p n)) (λ y. omega (arith, maximum-yes n y)) (λ f. omega (arith, maximum-no n f)))
+
+  pub maximum-least : (n : ℕ) → z ≤ maximum p g z n
+  maximum-least zero = omega (arith, maximum-nil)
+  maximum-least (suc n) = cases (bool (p n)) (λ y. omega (arith, maximum-yes n y, maximum-least n)) (λ f. omega (arith, maximum-no n f, maximum-least n))
+
+  pub maximum-in : (n : ℕ) → ((x : ℕ) × (x < n) × (p x ≡ true) × (g x ≡ maximum p g z n)) ⊎ (maximum p g z n ≡ z)
+  maximum-in zero = inr maximum-nil
+  maximum-in (suc n) =
+      cases (bool (p n))
+      (λ t.
+      let s = maximum-yes n t in
+      cases (lt-or (maximum p g z n) (g n))
+      (λ h. inl (n, omega arith, t, omega arith))
+      (λ h. cases (maximum-in n) (λ r. inl (r .0, omega (arith, r .1), r .2, omega (arith, r .3))) (λ e. inr (omega arith))))
+      (λ f.
+      let s = maximum-no n f in
+      cases (maximum-in n) (λ r. inl (r .0, omega (arith, r .1), r .2, omega (arith, r .3))) (λ e. inr (omega arith)))
+
+  pub maximum-is : (n : ℕ) → foldr max z (map g (keep p (from 0 n))) ≡ maximum p g z n
+  maximum-is n =
+      let l = keep p (from 0 n) in
+      let a : maximum p g z n ≤ foldr max z (map g l) =
+      cases (maximum-in n) (λ r. omega (arith, max-le g z (r .0) l (kept-in p n (r .0) (r .1) (r .2)), r .3)) (λ e. omega (arith, max-least g z l)) in
+      let b : foldr max z (map g l) ≤ maximum p g z n =
+      cases (max-in g z l) (λ r. let q = kept-of p n (r .0) (r .1) in omega (arith, maximum-le n (r .0) (q .0) (q .1), r .2)) (λ e. omega (arith, maximum-least n)) in
+      omega arith
+
+-- The best
+
+-- k is the first of the numbers below n that pass that none of them beats
+pub record Best (p : ℕ → Bool) (beats : ℕ → ℕ → Bool) (n k : ℕ) : Type 0 where
+  pub below : k < n
+  pub passes : p k ≡ true
+  pub unbeaten : (j : ℕ) → j < n → p j ≡ true → beats j k ≡ false
+  pub first : (j : ℕ) → j < k → p j ≡ true → beats k j ≡ true
+
+module _ (p : ℕ → Bool) (beats : ℕ → ℕ → Bool) (m : ℕ) where
+  pub best-pass : (n : ℕ) → p n ≡ false → best p beats m (suc n) ≡ best p beats m n
+  unfolding best
+  best-pass n f = rw (both-no-first (p n) (either (leb m (best p beats m n)) (beats n (best p beats m n))) f)
+
+  pub best-start : (n : ℕ) → p n ≡ true → m ≤ best p beats m n → best p beats m (suc n) ≡ n
+  unfolding best
+  best-start n t h = rw (both-yes t (either-first (leb m (best p beats m n)) (beats n (best p beats m n)) (le-leb m (best p beats m n) h)))
+
+  pub best-beaten : (n : ℕ) → p n ≡ true → beats n (best p beats m n) ≡ true → best p beats m (suc n) ≡ n
+  unfolding best
+  best-beaten n t h = rw (both-yes t (either-second (leb m (best p beats m n)) (beats n (best p beats m n)) h))
+
+  pub best-stays : (n : ℕ) → best p beats m n < m → beats n (best p beats m n) ≡ false → best p beats m (suc n) ≡ best p beats m n
+  unfolding best
+  best-stays n h f = rw (both-no-second (p n) (either (leb m (best p beats m n)) (beats n (best p beats m n))) (either-no (lt-leb m (best p beats m n) h) f))
+
+  module _ (strict : (i j : ℕ) → beats i j ≡ true → beats j i ≡ false)
+      (chain : (i j k : ℕ) → beats i k ≡ true → beats j k ≡ false → beats i j ≡ true) where
+    self : (k : ℕ) → beats k k ≡ false
+    self k = cases (bool (beats k k)) (λ t. strict k k t) (λ f. f)
+
+    pub best-is : (n : ℕ) → n ≤ m → Best p beats n (best p beats m n) ⊎ ((best p beats m n ≡ m) × ((j : ℕ) → j < n → p j ≡ false))
+    best-is zero h = inr (unfold best in refl, λ j g. absurd (omega arith))
+    best-is (suc n) h =
+        cases (bool (p n))
+        (λ t.
+        cases (best-is n (omega arith))
+        (λ r.
+        cases (bool (beats n (best p beats m n)))
+        (λ y. inl (rw (best-beaten n t y)
+        (record {
+          below = omega arith;
+          passes = t;
+          unbeaten = λ j g u.
+              cases (eq-or j n) (λ e. rw e (self n))
+              (λ d. let d′ : j ≢ n = d in strict n j (chain n j (best p beats m n) y (r .unbeaten j (omega arith) u)));
+          first = λ j g u. chain n j (best p beats m n) y (r .unbeaten j g u);
+        })))
+        (λ y. inl (rw (best-stays n (omega (arith, r .below)) y)
+        (record {
+          below = omega (arith, r .below);
+          passes = r .passes;
+          unbeaten = λ j g u. cases (eq-or j n) (λ e. rw e y) (λ d. let d′ : j ≢ n = d in r .unbeaten j (omega arith) u);
+          first = r .first;
+        }))))
+        (λ r. inl (rw (best-start n t (omega (arith, r .0)))
+        (record {
+          below = omega arith;
+          passes = t;
+          unbeaten = λ j g u. cases (eq-or j n) (λ e. rw e (self n)) (λ d. let d′ : j ≢ n = d in true-false u (r .1 j (omega arith)));
+          first = λ j g u. true-false u (r .1 j g);
+        }))))
+        (λ f.
+        cases (best-is n (omega arith))
+        (λ r. inl (rw (best-pass n f)
+        (record {
+          below = omega (arith, r .below);
+          passes = r .passes;
+          unbeaten = λ j g u. cases (eq-or j n) (λ e. true-false u (rw e f)) (λ d. let d′ : j ≢ n = d in r .unbeaten j (omega arith) u);
+          first = r .first;
+        })))
+        (λ r. inr (best-pass n f ∙ r .0, λ j g. cases (eq-or j n) (λ e. rw e f) (λ d. let d′ : j ≢ n = d in r .1 j (omega arith)))))

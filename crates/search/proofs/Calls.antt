@@ -1,0 +1,130 @@
+-- What `explore` and `orient` return, one lemma for each place where they do; and that two results that orient's statement allows are equal.
+use mathlib.Core.Bool.{Bool, true, false}
+use mathlib.Core.List.{List}
+use mathlib.Core.Logic.{_⊎_, inl, inr, _≢_}
+use mathlib.Core.Path.{_≡_, refl, sym, ap, _∙_, subst}
+use Prim.Native.Nat.{ℕ, _+_, _*_, _-_, _/_, _≤_, _<_}
+use native.Mathlib.Omega.{arith}
+use lib.Dec.{ltb}
+use lib.ListN.{length}
+use borrow.Author.Tests.{lt-ltb, le-ltb}
+use Rattle.laws.specs.Lists.{filled}
+use Rattle.laws.specs.Tests.{either}
+use Rattle.laws.proofs.Cases.{cases, true-false}
+use Rattle.laws.proofs.Tests.{either-first, either-second, either-no}
+use Rattle.network.specs.Network.{Network, network, Connected}
+use Rattle.network.specs.Numbers.{refused, done, oversize, odd, Checked, Sifted}
+use Rattle.network.specs.Inside.{Fit}
+use Rattle.network.specs.declared.Answer.{Answer}
+use Rattle.network.proofs.Sifting.{sift-fit, sift-refused, sift-connected, refuse-2, refuse-3, refuse-rest, checked-grant, checked-once}
+use Rattle.search.specs.Machine.{finished}
+use Rattle.search.specs.Orient.{Orient, Explored, unsearched, searched, back-lines}
+use Rattle.search.specs.Inside.{Settled}
+use Rattle.search.specs.declared.Search.{Search}
+use Rattle.search.proofs.Deep.{finished-both}
+use Rattle.search.proofs.Grows.{backs-counted}
+
+-- explore
+
+module _ (n : ℕ) (ends : List ℕ) (k : ℕ) (s : Sifted n ends k) where
+  pub explore-sifted : (k ≡ 0 → ⊥) → (r : Search) → r ≡ unsearched k → Explored n ends r
+  explore-sifted d r e = sift-refused n ends k s d (λ j. r ≡ unsearched j) (r ≡ searched (network n ends)) e
+
+  module _ (z : k ≡ 0) where
+    pub explore-fit : Fit (network n ends)
+    explore-fit = sift-fit n ends k s z
+
+    pub explore-apart : (q : Search) → Settled (network n ends) q → (q .number ≡ 0 → ⊥) → (r : Search) → r ≡ unsearched 6 → Explored n ends r
+    explore-apart q (inl (c, e)) d r u = absurd (d (ap (λ (x : Search). x .number) e))
+    explore-apart q (inr (c, e)) d r u = sift-connected n ends k s z (λ j. r ≡ unsearched j) (r ≡ searched (network n ends)) (inr (c, u))
+
+    pub explore-found : (r : Search) → Settled (network n ends) r → r .number ≡ 0 → Explored n ends r
+    explore-found r (inl (c, e)) y = sift-connected n ends k s z (λ j. r ≡ unsearched j) (r ≡ searched (network n ends)) (inl (c, e))
+    explore-found r (inr (c, e)) y = absurd (omega arith)
+
+-- a search with the number 0 is that of a connected network
+pub explored : (n : ℕ) (ends : List ℕ) (r : Search) → Explored n ends r → r .number ≡ 0 → Fit (network n ends) × Connected (network n ends) × (r ≡ searched (network n ends))
+explored n ends r x z =
+    checked-grant n ends false (λ k. r ≡ unsearched k) (r ≡ searched (network n ends)) x
+    (λ k some e. let y : r .number ≡ k = ap (λ (q : Search). q .number) e in omega arith)
+
+-- orient
+
+module _ (n : ℕ) (ends : List ℕ) (q : Search) (x : Explored n ends q) (z : q .number ≡ 0) where
+  found : Fit (network n ends) × Connected (network n ends) × (q ≡ searched (network n ends))
+  found = explored n ends q x z
+
+  counted : back-lines (network n ends) + n ≡ length ends / 2 + 1
+  counted = backs-counted (network n ends) (found .0) (found .1)
+
+  -- the sum that is handed out does not fall below zero
+  pub orient-fits : n ≤ length ends / 2 + 1
+  orient-fits = omega (arith, counted)
+
+  -- the tables are long enough
+  pub orient-lines : length ends / 2 ≤ length (q .kinds)
+  orient-lines =
+      let long : length (q .kinds) ≡ 2048 = ap (λ (y : Search). length (y .kinds)) (found .2) ∙ finished-both (network n ends) (found .0) .0 .kinds-long in
+      omega (arith, found .0 .few-lines)
+
+  pub orient-vertices : n ≤ length (q .heights)
+  orient-vertices =
+      let long : length (q .heights) ≡ 512 = ap (λ (y : Search). length (y .heights)) (found .2) ∙ finished-both (network n ends) (found .0) .0 .heights-long in
+      omega (arith, found .0 .few-vertices)
+
+module _ (n : ℕ) (ends ks hs : List ℕ) (two : Bool) (is-two : two ≡ oversize n (length ends)) where
+  abbrev short : Bool
+  short = either (ltb (length ks) (length ends / 2)) (ltb (length hs) n)
+
+  abbrev Result : Answer → List ℕ → List ℕ → Type 0
+  Result r ks′ hs′ = (r ≡ done (back-lines (network n ends)) 0) × (ks′ ≡ filled (length ends / 2) (finished (network n ends) .kind) ks)
+      × (hs′ ≡ filled n (finished (network n ends) .height) hs)
+
+  abbrev Untouched : Answer → List ℕ → List ℕ → ℕ → Type 0
+  Untouched r ks′ hs′ k = (r ≡ refused k) × (ks′ ≡ ks) × (hs′ ≡ hs)
+
+  pub orient-2 : two ≡ true → (r : Answer) → r ≡ refused 2 → Orient n ends ks hs r ks hs
+  orient-2 t r e = refuse-2 n ends short (Untouched r ks hs) (Result r ks hs) (sym is-two ∙ t) (e, refl, refl)
+
+  module _ (not-two : two ≡ false) where
+    in-limits : oversize n (length ends) ≡ false
+    in-limits = sym is-two ∙ not-two
+
+    module _ (three : Bool) (is-three : three ≡ odd (length ends)) where
+      orient-3 : either (odd (length ends)) short ≡ true → (r : Answer) → r ≡ refused 3 → Orient n ends ks hs r ks hs
+      orient-3 t r e = refuse-3 n ends short (Untouched r ks hs) (Result r ks hs) in-limits t (e, refl, refl)
+
+      pub orient-odd : three ≡ true → (r : Answer) → r ≡ refused 3 → Orient n ends ks hs r ks hs
+      orient-odd t = orient-3 (either-first _ _ (sym is-three ∙ t))
+
+      pub orient-few-kinds : length ks < length ends / 2 → (r : Answer) → r ≡ refused 3 → Orient n ends ks hs r ks hs
+      orient-few-kinds l = orient-3 (either-second _ _ (either-first _ _ (lt-ltb _ _ l)))
+
+      pub orient-few-heights : length hs < n → (r : Answer) → r ≡ refused 3 → Orient n ends ks hs r ks hs
+      orient-few-heights l = orient-3 (either-second _ _ (either-second _ _ (lt-ltb _ _ l)))
+
+      module _ (not-three : three ≡ false) (kinds-room : length ends / 2 ≤ length ks) (heights-room : n ≤ length hs) (q : Search) (x : Explored n ends q) where
+        enough : either (odd (length ends)) short ≡ false
+        enough = either-no (sym is-three ∙ not-three) (either-no (le-ltb _ _ kinds-room) (le-ltb _ _ heights-room))
+
+        pub orient-refused : (q .number ≡ 0 → ⊥) → (r : Answer) → r ≡ refused (q .number) → Orient n ends ks hs r ks hs
+        orient-refused d r e =
+            refuse-rest n ends short (Untouched r ks hs) (Result r ks hs) enough x
+            (λ k some (u : q ≡ unsearched k). (e ∙ ap refused (ap (λ (y : Search). y .number) u), refl, refl))
+            (λ (g : q ≡ searched (network n ends)). absurd (d (ap (λ (y : Search). y .number) g)))
+
+        pub orient-done : q .number ≡ 0 → (r : Answer) (ks′ hs′ : List ℕ) → r ≡ done (length ends / 2 + 1 - n) 0
+            → ks′ ≡ filled (length ends / 2) (q .kinds) ks → hs′ ≡ filled n (q .heights) hs → Orient n ends ks hs r ks′ hs′
+        orient-done z r ks′ hs′ e a b =
+            let backs : length ends / 2 + 1 - n ≡ back-lines (network n ends) = omega (arith, counted n ends q x z) in
+            refuse-rest n ends short (Untouched r ks′ hs′) (Result r ks′ hs′) enough x
+            (λ k some (u : q ≡ unsearched k). absurd (let y : q .number ≡ k = ap (λ (v : Search). v .number) u in omega arith))
+            (λ (g : q ≡ searched (network n ends)). (e ∙ ap (λ (y : ℕ). done y 0) backs, a ∙ ap (λ (y : Search). filled (length ends / 2) (y .kinds) ks) g, b ∙ ap (λ (y : Search). filled n (y .heights) hs) g))
+
+-- Two results that the statement allows are equal.
+pub orient-once : (n : ℕ) (ends ks hs : List ℕ) (r r′ : Answer) (ks′ ks″ hs′ hs″ : List ℕ) → Orient n ends ks hs r ks′ hs′ → Orient n ends ks hs r′ ks″ hs″
+    → (r ≡ r′) × (ks′ ≡ ks″) × (hs′ ≡ hs″)
+orient-once n ends ks hs r r′ ks′ ks″ hs′ hs″ =
+    checked-once n ends (either (ltb (length ks) (length ends / 2)) (ltb (length hs) n))
+    (λ k (a : Untouched n ends ks hs _ refl r ks′ hs′ k) (b : Untouched n ends ks hs _ refl r′ ks″ hs″ k). (a .0 ∙ sym (b .0), a .1 ∙ sym (b .1), a .2 ∙ sym (b .2)))
+    (λ (a : Result n ends ks hs _ refl r ks′ hs′) (b : Result n ends ks hs _ refl r′ ks″ hs″). (a .0 ∙ sym (b .0), a .1 ∙ sym (b .1), a .2 ∙ sym (b .2)))

@@ -1,0 +1,10 @@
+pub mod Steps
+pub mod Sound
+pub mod Halts
+pub mod Deep
+pub mod Linking
+pub mod Going
+pub mod Reached
+pub mod Grows
+pub mod Settled
+pub mod Calls

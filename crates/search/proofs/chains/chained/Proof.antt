@@ -1,0 +1,82 @@
+-- `chained` makes the chains: the half-lines passed so far are laid.
+use Rattle.search.proofs.Linking.{Linking, linking-start, linking-place, linking-vertex, linking-more, linking-done}
+use borrow.Author.Needs.{needs}
+use Rattle.search.proofs.chains.chained.Statement.{statement}
+use Rattle.search.proofs.chains.chained.Tie as tie
+
+abbrev Inv-loop : tie.InvT-loop
+Inv-loop ends none heads₀ nexts₀ h₀ heads nexts h = Linking ends heads nexts h
+
+abbrev μ-loop : tie.MeasureT-loop
+μ-loop ends none heads₀ nexts₀ h₀ heads nexts h = h
+
+cast-none : tie.Need-cast-none Inv-loop μ-loop
+cast-none c = search needs
+
+loop-holds : tie.Need-loop-holds Inv-loop μ-loop
+loop-holds c = search linking-start
+
+sub-h : tie.Need-sub-h Inv-loop μ-loop
+sub-h c = search needs
+
+mul-wide : tie.Need-mul-wide Inv-loop μ-loop
+mul-wide c = search needs
+
+shared-slice-read-wide : tie.Need-shared-slice-read-wide Inv-loop μ-loop
+shared-slice-read-wide c = search needs
+
+wide-requires : tie.Need-wide-requires Inv-loop μ-loop
+wide-requires c κs = search needs
+
+mul-nexts : tie.Need-mul-nexts Inv-loop μ-loop
+mul-nexts c = search needs
+
+array-read-nexts : tie.Need-array-read-nexts Inv-loop μ-loop
+array-read-nexts c = search linking-vertex
+
+mul-nexts-2 : tie.Need-mul-nexts-2 Inv-loop μ-loop
+mul-nexts-2 c = search needs
+
+array-write-nexts : tie.Need-array-write-nexts Inv-loop μ-loop
+array-write-nexts c = search linking-place
+
+cast-heads : tie.Need-cast-heads Inv-loop μ-loop
+cast-heads c = search needs
+
+mul-heads : tie.Need-mul-heads Inv-loop μ-loop
+mul-heads c = search needs
+
+array-write-heads : tie.Need-array-write-heads Inv-loop μ-loop
+array-write-heads c = search linking-vertex
+
+loop-less : tie.Need-loop-less Inv-loop μ-loop
+loop-less c = search needs
+
+loop-again : tie.Need-loop-again Inv-loop μ-loop
+loop-again c = search linking-more
+
+returns : tie.Need-returns Inv-loop μ-loop
+returns c = search linking-done
+
+pub chained-spec : {M : Type 1} → statement M
+chained-spec =
+    tie.close
+    (tie.spec
+    Inv-loop
+    μ-loop
+    cast-none
+    loop-holds
+    sub-h
+    mul-wide
+    shared-slice-read-wide
+    wide-requires
+    mul-nexts
+    array-read-nexts
+    mul-nexts-2
+    array-write-nexts
+    cast-heads
+    mul-heads
+    array-write-heads
+    loop-less
+    loop-again
+    returns)

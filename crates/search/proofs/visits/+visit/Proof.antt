@@ -1,0 +1,142 @@
+-- `visit` meets its contract: the loop keeps `Going`, and at each call of itself the unfound vertices and the unused lines are fewer.
+use Prim.Native.Nat.{ℕ, _+_, _*_, _-_, _<_}
+use native.Mathlib.Omega.{arith}
+use borrow.Author.Needs.{needs}
+use borrow.Fn.Kinds.{In}
+use borrow.Fn.PlainCycle.{Measures, is, falls, and}
+use Rattle.network.specs.Network.{network-of}
+use Rattle.search.specs.Machine.{state}
+use Rattle.search.specs.Inside.{unfound, untaken}
+use Rattle.search.proofs.Going.{Going, visit-half, visit-start, visit-done, visit-further, visit-skip, visit-room, visit-back, visit-enter, visit-in, visit-less, visit-deep}
+use Rattle.search.proofs.visits.visit.Reads as visit
+use Rattle.search.proofs.visits.visit.Kinds as visit-kinds
+use Rattle.search.proofs.visits.+visit.Lts-visit as lts
+use Rattle.search.proofs.visits.enter.Reads as enter-reads
+use Rattle.search.proofs.visits.far.Reads as far-reads
+use Rattle.network.proofs.wide.Reads as wide-reads
+use Rattle.search.proofs.visits.+visit.{statement}
+use Rattle.search.proofs.visits.+visit.Tie.{close}
+
+abbrev μ : Measures 7 visit-kinds.ps ℕ
+μ κs a = unfound (a .0) (a .1 .1 .1 .1 .1 .1 .1 .0 .now) + untaken (a .1 .0) (a .1 .1 .1 .1 .1 .1 .0 .now)
+
+-- what `visit` is given at the measure t, what a call of it asks below t, and what its callees ask and tell
+abbrev given : ℕ → In 7 visit-kinds.ps
+given t = and 7 visit-kinds.ps (is 7 visit-kinds.ps μ t) visit.Pre
+
+abbrev claims : ℕ → lts.Claims
+claims t = (
+  wide-reads.Asked,
+  wide-reads.Learnt,
+  far-reads.Asked,
+  far-reads.Learnt,
+  enter-reads.Asked,
+  enter-reads.Learnt,
+  and 7 visit-kinds.ps (falls 7 visit-kinds.ps _<_ μ t) visit.Pre,
+  visit.Post,
+)
+
+abbrev Inv : lts.InvT-loop
+Inv vertices lines v ends heads nexts kinds₀ found₀ heights₀ parents₀ h₀ kinds found heights parents h =
+    Going (network-of vertices lines ends) (state v kinds₀ found₀ heights₀ parents₀) kinds found heights parents h
+
+abbrev μ-loop : lts.MeasureT-loop
+μ-loop vertices lines v ends heads nexts kinds₀ found₀ heights₀ parents₀ h₀ kinds found heights parents h = 2 * lines - h
+
+module _ (t : ℕ) where
+  mul-wide : lts.Need-mul-wide (claims t) (given t) visit.Post Inv μ-loop
+  mul-wide c = omega arith
+
+  element-copy-out-wide : lts.Need-element-copy-out-wide (claims t) (given t) visit.Post Inv μ-loop
+  element-copy-out-wide c = omega arith
+
+  wide-requires : lts.Need-wide-requires (claims t) (given t) visit.Post Inv μ-loop
+  wide-requires c κs = search needs
+
+  loop-holds : lts.Need-loop-holds (claims t) (given t) visit.Post Inv μ-loop
+  loop-holds c = search visit-start
+
+  mul-loop : lts.Need-mul-loop (claims t) (given t) visit.Post Inv μ-loop
+  mul-loop c = omega arith
+
+  mul-wide-2 : lts.Need-mul-wide-2 (claims t) (given t) visit.Post Inv μ-loop
+  mul-wide-2 c = omega arith
+
+  element-copy-out-wide-2 : lts.Need-element-copy-out-wide-2 (claims t) (given t) visit.Post Inv μ-loop
+  element-copy-out-wide-2 c = omega arith
+
+  wide-requires-2 : lts.Need-wide-requires-2 (claims t) (given t) visit.Post Inv μ-loop
+  wide-requires-2 c κs = search needs
+
+  element-copy-out-if1 : lts.Need-element-copy-out-if1 (claims t) (given t) visit.Post Inv μ-loop
+  element-copy-out-if1 c = omega arith
+
+  far-requires : lts.Need-far-requires (claims t) (given t) visit.Post Inv μ-loop
+  far-requires c κs = search visit-half
+
+  element-copy-out-if2 : lts.Need-element-copy-out-if2 (claims t) (given t) visit.Post Inv μ-loop
+  element-copy-out-if2 c =
+      let f = c in
+      let l = f .before .before .before .before .before .before in
+      let s = l .before .before .before .before in
+      visit-room (s .pre .1 .1 .1) (s .pre .1 .0) (s .pre .1 .1 .0) (l .loop .inv) (f .before .before .before .before .before .loop-test .taken) (f .before .before .before .wide2 .ensures) (f .before .if1 .taken) (f .far .ensures)
+
+  enter-requires : lts.Need-enter-requires (claims t) (given t) visit.Post Inv μ-loop
+  enter-requires c κs =
+      let f = c .before .before .before .before .before .before in
+      let l = f .before .before .before .before .before .before in
+      let s = l .before .before .before .before in
+      visit-enter (s .pre .1 .1 .1) (s .pre .1 .0) (s .pre .1 .1 .0) (l .loop .inv) (f .before .before .before .before .before .loop-test .taken) (f .before .before .before .wide2 .ensures) (f .before .if1 .taken) (f .far .ensures) (c .before .before .before .before .if2 .taken)
+
+  visit-requires : lts.Need-visit-requires (claims t) (given t) visit.Post Inv μ-loop
+  visit-requires c κs =
+      let f = c .before .before .before .before .before .before .before .before .before .before .before in
+      let l = f .before .before .before .before .before .before in
+      let s = l .before .before .before .before in
+      let e = c .before .before .before .before .enter .ensures in
+      let new = c .before .before .before .before .before .before .before .before .before .if2 .taken in
+      (omega (arith, visit-less (s .pre .1 .1 .1) (s .pre .1 .0) (s .pre .1 .1 .0) (l .loop .inv) (f .before .before .before .before .before .loop-test .taken) (f .before .before .before .wide2 .ensures) (f .before .if1 .taken) (f .far .ensures) new e, s .pre .0), (s .pre .1 .0, (s .pre .1 .1 .0, visit-in (s .pre .1 .1 .1) (s .pre .1 .0) (s .pre .1 .1 .0) (l .loop .inv) (f .before .before .before .before .before .loop-test .taken) (f .before .before .before .wide2 .ensures) (f .before .if1 .taken) (f .far .ensures) new e)))
+
+  element-write-kinds : lts.Need-element-write-kinds (claims t) (given t) visit.Post Inv μ-loop
+  element-write-kinds c = omega arith
+
+  loop-less : lts.Need-loop-less (claims t) (given t) visit.Post Inv μ-loop
+  loop-less c =
+      let f = c .before .before .before .before .before .before .before .before .before .before .before .before in
+      let l = f .before .before .before .before .before .before in
+      let s = l .before .before .before .before in
+      visit-further (s .pre .1 .1 .1) (s .pre .1 .0) (s .pre .1 .1 .0) (l .loop .inv) (f .before .before .before .before .before .loop-test .taken) (f .before .before .before .wide2 .ensures)
+
+  loop-again : lts.Need-loop-again (claims t) (given t) visit.Post Inv μ-loop
+  loop-again c =
+      let f = c .before .before .before .before .before .before .before .before .before .before .before .before in
+      let l = f .before .before .before .before .before .before in
+      let s = l .before .before .before .before in
+      visit-deep (s .pre .1 .1 .1) (s .pre .1 .0) (s .pre .1 .1 .0) (l .loop .inv) (f .before .before .before .before .before .loop-test .taken) (f .before .before .before .wide2 .ensures) (f .before .if1 .taken) (f .far .ensures) (c .before .before .before .before .before .before .before .before .before .before .if2 .taken) (c .before .before .before .before .before .enter .ensures) (c .visit .ensures)
+
+  loop-less-2 : lts.Need-loop-less-2 (claims t) (given t) visit.Post Inv μ-loop
+  loop-less-2 c = search visit-further
+
+  loop-again-2 : lts.Need-loop-again-2 (claims t) (given t) visit.Post Inv μ-loop
+  loop-again-2 c =
+      let f = c .before .before in
+      let l = f .before .before .before .before .before .before in
+      let s = l .before .before .before .before in
+      visit-back (s .pre .1 .1 .1) (s .pre .1 .0) (s .pre .1 .1 .0) (l .loop .inv) (f .before .before .before .before .before .loop-test .taken) (f .before .before .before .wide2 .ensures) (f .before .if1 .taken) (f .far .ensures) (c .if2 .left)
+
+  loop-less-3 : lts.Need-loop-less-3 (claims t) (given t) visit.Post Inv μ-loop
+  loop-less-3 c = search visit-further
+
+  loop-again-3 : lts.Need-loop-again-3 (claims t) (given t) visit.Post Inv μ-loop
+  loop-again-3 c = search visit-skip
+
+  returns : lts.Need-returns (claims t) (given t) visit.Post Inv μ-loop
+  returns c = search visit-done
+
+pub +visit-spec : {M : Type 1} → statement M
++visit-spec =
+    close μ λ t.
+    lts.spec (claims t) (given t) visit.Post Inv μ-loop
+    (mul-wide t) (element-copy-out-wide t) (wide-requires t) (loop-holds t) (mul-loop t) (mul-wide-2 t) (element-copy-out-wide-2 t)
+    (wide-requires-2 t) (element-copy-out-if1 t) (far-requires t) (element-copy-out-if2 t) (enter-requires t) (visit-requires t)
+    (element-write-kinds t) (loop-less t) (loop-again t) (loop-less-2 t) (loop-again-2 t) (loop-less-3 t) (loop-again-3 t) (returns t)

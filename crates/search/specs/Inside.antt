@@ -1,0 +1,99 @@
+-- What functions inside ask of each other. A reader of the calls' statements need not believe any of it.
+use mathlib.Core.Bool.{Bool, true, false, cond, not}
+use mathlib.Core.List.{List}
+use mathlib.Core.Path.{_≡_}
+use Prim.Native.Nat.{ℕ, suc, _+_, _*_, _-_, _%_, _≤_, _<_}
+use lib.Dec.{eqb}
+use lib.ListN.{getD, set, length, take}
+use Rattle.laws.specs.Checks.{check}
+use Rattle.laws.specs.Counting.{many}
+use Rattle.laws.specs.Tests.{all}
+use Rattle.network.specs.Network.{Network, Connected}
+use Rattle.search.specs.Machine.{State, unused, free, run, finished}
+use Rattle.search.specs.Orient.{searched}
+use Rattle.search.specs.declared.Search.{Search}
+
+-- The list of ends is one that can be chained.
+pub record Halves (ends : List ℕ) : Type 0 where
+  pub few : length ends ≤ 4096
+  pub small : (i : ℕ) → i < length ends → getD ends i 0 < 512
+
+-- A half-line is a place in the list of ends; its partner is the other half of the line.
+unfoldable pub partner : ℕ → ℕ
+partner h = cond (eqb (h % 2) 0) (h + 1) (h - 1)
+
+-- The half-line and its partner stand in the list.
+pub record Halved (h : ℕ) (ends : List ℕ) : Type 0 where
+  pub half : h < length ends
+  pub other-half : partner h < length ends
+
+-- The first half-line at v from place i on is h, or there is none and h is the end of the list.
+pub record Onward (ends : List ℕ) (v i h : ℕ) : Type 0 where
+  pub from : i ≤ h
+  pub upto : h ≤ length ends
+  pub at : h < length ends → getD ends h 0 ≡ v
+  pub between : (j : ℕ) → i ≤ j → j < h → getD ends j 0 ≡ v → ⊥
+
+-- Each vertex's first half-line, and each half-line's next one at the same vertex.
+pub record Chained (ends hs ns : List ℕ) : Type 0 where
+  pub heads-long : length hs ≡ 512
+  pub nexts-long : length ns ≡ 4096
+  pub heads : (v : ℕ) → v < 512 → Onward ends v 0 (getD hs v 0)
+  pub nexts : (h : ℕ) → h < length ends → Onward ends (getD ends h 0) (h + 1) (getD ns h 0)
+
+-- How many vertices are not found, and how many lines are not used.
+abbrev pub unfound : ℕ → List ℕ → ℕ
+unfound n fs = many 0 (take n fs)
+
+abbrev pub untaken : ℕ → List ℕ → ℕ
+untaken m ks = many unused (take m ks)
+
+-- The search may visit the state's vertex.
+pub record Ready (net : Network) (s : State) : Type 0 where
+  pub kinds-long : length (s .kind) ≡ 2048
+  pub founds-long : length (s .found) ≡ 512
+  pub heights-long : length (s .height) ≡ 512
+  pub parents-long : length (s .parent) ≡ 512
+  pub here : s .at < net .vertices
+  pub found-here : getD (s .found) (s .at) 0 ≡ 0 → ⊥
+  pub low : getD (s .height) (s .at) 0 + unfound (net .vertices) (s .found) < net .vertices
+
+-- `enter` may go up line k from v to w.
+pub record Enterable (n m v w k : ℕ) (ks fs hs ps : List ℕ) : Type 0 where
+  pub kinds-long : length ks ≡ 2048
+  pub founds-long : length fs ≡ 512
+  pub heights-long : length hs ≡ 512
+  pub parents-long : length ps ≡ 512
+  pub few-vertices : n ≤ 512
+  pub few-lines : m ≤ 2048
+  pub from-in : v < n
+  pub to-in : w < n
+  pub line-in : k < m
+  pub low : getD hs v 0 < 512
+  pub line-unused : getD ks k 0 ≡ unused
+  pub to-new : getD fs w 0 ≡ 0
+
+-- `enter` has gone up line k from v to w.
+pub record Entered (n m v w k : ℕ) (ks fs hs ps ks′ fs′ hs′ ps′ : List ℕ) : Type 0 where
+  pub kinds : ks′ ≡ set ks k 0
+  pub founds : fs′ ≡ set fs w 1
+  pub heights : hs′ ≡ set hs w (getD hs v 0 + 1)
+  pub parents : ps′ ≡ set ps w k
+  pub fewer-vertices : suc (unfound n fs′) ≡ unfound n fs
+  pub fewer-lines : suc (untaken m ks′) ≡ untaken m ks
+
+-- Steps of the machine lead from s to t, which has no free line at its vertex.
+pub record Visited (net : Network) (s t : State) : Type 0 where
+  pub steps : ℕ
+  pub runs : run net steps s ≡ t
+  pub stuck : (k : ℕ) → k < net .lines → free (net .ends) (t .kind) (t .at) k ≡ false
+  pub fewer-vertices : unfound (net .vertices) (t .found) ≤ unfound (net .vertices) (s .found)
+  pub fewer-lines : untaken (net .lines) (t .kind) ≤ untaken (net .lines) (s .kind)
+
+-- Every vertex is found.
+unfoldable pub everyone : ℕ → List ℕ → Bool
+everyone n fs = all (λ v. not (eqb (getD fs v 0) 0)) n
+
+-- The search has come to its end: 0 and its tables where the network is connected, else 6.
+abbrev pub Settled : Network → Search → Type 0
+Settled net r = check (Connected net) (r ≡ searched net) (r .number ≡ 6)
