@@ -9,6 +9,7 @@ use lib.Dec.{ltb}
 use lib.ListN.{length}
 use borrow.Author.Tests.{le-ltb, ltb-false}
 use Rattle.laws.specs.Tests.{either}
+use Rattle.laws.specs.Lists.{filled}
 use Rattle.laws.specs.Checks.{check}
 use Rattle.laws.proofs.Cases.{cases, bool, true-false}
 use Rattle.laws.proofs.Checks.{check-once}
@@ -17,17 +18,13 @@ use Rattle.network.specs.Network.{network, Connected}
 use Rattle.network.specs.Numbers.{refused, done, oversize, odd, astray, mispaired, Formed, Checked}
 use Rattle.network.specs.declared.Answer.{Answer}
 use Rattle.text.specs.Text.{room, text-of, vertices-in, lines-in, ends-in, has-form}
-use Rattle.text.specs.Calls.{begun, Read, Write}
+use Rattle.text.specs.Calls.{Read, Write}
 
--- Checks 4 to 6, and 2 to 6, twice
+-- Checks 4 to 6, twice
 
 pub formed-once : (n : ℕ) (ends : List ℕ) {R R′ : ℕ → Type 0} {G G′ C : Type 0} → ((k : ℕ) → R k → R′ k → C) → (G → G′ → C)
     → Formed n ends R G → Formed n ends R′ G′ → C
 formed-once n ends f g = check-once (f 4) (check-once (f 5) (check-once g (f 6)))
-
-pub checked-once : (n : ℕ) (ends : List ℕ) (short : Bool) {R R′ : ℕ → Type 0} {G G′ C : Type 0} → ((k : ℕ) → R k → R′ k → C) → (G → G′ → C)
-    → Checked n ends short R G → Checked n ends short R′ G′ → C
-checked-once n ends short f g = check-once (f 2) (check-once (f 3) (formed-once n ends f g))
 
 -- The ends meet none of 4 to 6.
 abbrev pub Sound : ℕ → List ℕ → Type 0
@@ -71,7 +68,7 @@ pub record Accepts (text ends : List ℕ) : Type 0 where
   pub sound : Sound (vertices-in text) (ends-in text)
 
 abbrev pub Took : List ℕ → List ℕ → Answer → List ℕ → Type 0
-Took text ends r ends′ = (r ≡ done (vertices-in text) (lines-in text)) × (ends′ ≡ begun (ends-in text) ends)
+Took text ends r ends′ = (r ≡ done (vertices-in text) (lines-in text)) × (ends′ ≡ filled (2 * lines-in text) (ends-in text) ends)
 
 pub read-done : (text ends : List ℕ) (r : Answer) (ends′ : List ℕ) → r .number ≡ 0 → Read text ends r ends′ → Accepts text ends × Took text ends r ends′
 read-done text ends r ends′ z (inl (p, a)) = absurd (not-done z 1 (omega arith) a)
@@ -97,7 +94,7 @@ pub record Grants (n : ℕ) (ends text : List ℕ) : Type 0 where
   pub sound : Sound n ends
 
 abbrev pub Gave : ℕ → List ℕ → List ℕ → Answer → List ℕ → Type 0
-Gave n ends text r text′ = (r ≡ done (room (length ends / 2)) 0) × (text′ ≡ begun (text-of n ends) text)
+Gave n ends text r text′ = (r ≡ done (room (length ends / 2)) 0) × (text′ ≡ filled (room (length ends / 2)) (text-of n ends) text)
 
 pub write-done : (n : ℕ) (ends text : List ℕ) (r : Answer) (text′ : List ℕ) → r .number ≡ 0 → Write n ends text r text′
     → Grants n ends text × Gave n ends text r text′

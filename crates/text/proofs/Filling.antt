@@ -5,12 +5,12 @@ use Prim.Native.Nat.{ℕ, zero, suc, _+_, _*_, _/_, _≤_, _<_}
 use native.Mathlib.Nat.{add-zero}
 use native.Mathlib.Omega.{arith}
 use lib.ListN.{getD, set, length, take, drop, length-append, length-set, length-take, length-drop, take-append-drop}
-use lib.Seq.{sets, sets-eq, length-sets, length-take-le, take-at, take-all, take-length, take-suc, drop-append-add, drop-drop, append-snoc}
+use lib.Seq.{sets, sets-eq, length-sets, length-take-le, take-at, take-all, take-suc, drop-append-add, drop-drop, append-snoc}
+use Rattle.laws.specs.Lists.{filled}
 use Rattle.text.specs.Text.{digits, feed, frame, frames, text-of, room, word, numbers, lines-in, ends-in}
-use Rattle.text.specs.Calls.{begun}
-use Rattle.text.specs.Inside.{Word, Form, Parsable, Roomy, Writable, after-first}
+use Rattle.text.specs.Inside.{Word, Number, Form, Parsable, Roomy, Writable, after-first}
 use Rattle.text.proofs.DigitsBack.{length-digits}
-use Rattle.text.proofs.TextBack.{length-text}
+use Rattle.text.proofs.TextBack.{length-text, length-ends-in}
 use Rattle.text.proofs.Places.{form-word}
 use Rattle.text.proofs.FramesBack.{length-frame, frames-two, length-frames, length-numbers}
 
@@ -87,7 +87,7 @@ module _ (text : List ℕ) (lines : ℕ) (ends₀ : List ℕ) (p : Parsable text
       pub second-in : (a : ℕ) → 2 * k + 1 < length (set ends (2 * k) a)
       second-in a = omega (arith, length-set ends (2 * k) a, t .long, p .roomy)
 
-      pub taken-more : (a b : ℕ) → (a ≡ word (drop (9 * (k + 1)) text)) × (a < 65536) → (b ≡ word (drop (9 * (k + 1) + 4) text)) × (b < 65536)
+      pub taken-more : (a b : ℕ) → Number text (9 * (k + 1)) a → Number text (9 * (k + 1) + 4) b
           → Taken text lines ends₀ (k + 1) (set (set ends (2 * k) a) (2 * k + 1) b)
       taken-more a b is-a is-b =
           let l = numbers k (drop 9 text) in
@@ -97,7 +97,7 @@ module _ (text : List ℕ) (lines : ℕ) (ends₀ : List ℕ) (p : Parsable text
           let at-a : 9 + 9 * k ≡ 9 * (k + 1) = omega arith in
           let at-b : 9 + (9 * k + 4) ≡ 9 * (k + 1) + 4 = omega arith in
           let grown : numbers (k + 1) (drop 9 text) ≡ l ++ (a ∷ b ∷ []) =
-          rw (next, numbers-last k (drop 9 text), drop-drop (9 * k) 9 text, drop-drop (9 * k + 4) 9 text, at-a, at-b, is-a .0, is-b .0) in
+          rw (next, numbers-last k (drop 9 text), drop-drop (9 * k) 9 text, drop-drop (9 * k + 4) 9 text, at-a, at-b, is-a .said, is-b .said) in
           let stored = sets-more l ends₀ (a ∷ b ∷ []) (2 * k) (length-numbers k (drop 9 text)) (omega (arith, p .roomy)) in
           record {
             upto = omega arith;
@@ -105,37 +105,11 @@ module _ (text : List ℕ) (lines : ℕ) (ends₀ : List ℕ) (p : Parsable text
             long = omega (arith, length-set (set ends (2 * k) a) (2 * k + 1) b, length-set ends (2 * k) a, t .long);
           }
 
-    pub taken-all : lines ≤ k → ends ≡ begun (ends-in text) ends₀
+    pub taken-all : lines ≤ k → ends ≡ filled (2 * lines) (ends-in text) ends₀
     taken-all h =
-        let is-k : k ≡ lines-in text = omega (arith, t .upto, p .lines-are) in
-        let used = length-numbers (lines-in text) (drop 9 text) in
-        rw (t .list, is-k, used)
-
--- Ends copied, one by one
-
--- the buffer after i ends were copied
-pub record Copied (ends buffer₀ : List ℕ) (i : ℕ) (buffer : List ℕ) : Type 0 where
-  pub upto : i ≤ length ends
-  pub list : buffer ≡ take i ends ++ drop i buffer₀
-  pub long : length buffer ≡ length buffer₀
-
-module _ (ends buffer₀ : List ℕ) where
-  pub copied-start : Copied ends buffer₀ 0 buffer₀
-  copied-start = record { upto = omega arith; list = refl; long = refl }
-
-  module _ (i : ℕ) (buffer : List ℕ) (c : Copied ends buffer₀ i buffer) where
-    pub copied-more : length ends ≤ length buffer₀ → i < length ends → Copied ends buffer₀ (i + 1) (set buffer i (getD ends i 0))
-    copied-more r h =
-        let one : i + 1 ≡ suc i = omega arith in
-        let stored = sets-more (take i ends) buffer₀ (getD ends i 0 ∷ []) i (length-take-le i ends (omega arith)) (omega arith) in
-        record {
-          upto = omega arith;
-          list = rw (c .list, one, take-suc ends i 0 h, ← one) stored;
-          long = omega (arith, length-set buffer i (getD ends i 0), c .long);
-        }
-
-    pub copied-all : length ends ≤ i → buffer ≡ begun ends buffer₀
-    copied-all h = let is-i : i ≡ length ends = omega (arith, c .upto) in rw (c .list, is-i, take-length ends)
+        let is-k : k ≡ lines = omega (arith, t .upto) in
+        let used : take (2 * lines) (ends-in text) ≡ ends-in text = take-all (2 * lines) (ends-in text) (omega (arith, length-ends-in text, p .lines-are)) in
+        rw (t .list, is-k, used, p .lines-are)
 
 -- One frame put
 
@@ -202,7 +176,7 @@ module _ (n : ℕ) (ends text₀ mid : List ℕ) (w : Writable n ends text₀) (
   pub roomy-mid : Roomy ends mid
   roomy-mid = record { even = w .fits .even; roomy = rw (ap length is-mid ∙ length-sets text₀ 0 (frame n (length ends / 2))) (w .fits .roomy) }
 
-  pub text-put : (text : List ℕ) → text ≡ after-first ends (length ends / 2) mid → text ≡ begun (text-of n ends) text₀
+  pub text-put : (text : List ℕ) → text ≡ after-first ends (length ends / 2) mid → text ≡ filled (room (length ends / 2)) (text-of n ends) text₀
   text-put text e =
       let m = length ends / 2 in
       let f = frame n m in
@@ -212,6 +186,8 @@ module _ (n : ℕ) (ends text₀ mid : List ℕ) (w : Writable n ends text₀) (
       (let at : length f + 9 * m ≡ room m = omega arith in
       let on : 9 + 9 * m ≡ room m = omega arith in
       rw (at, drop-drop (9 * m) 9 text₀, on) at (drop-append-add f (drop 9 text₀) (9 * m))) in
+      let whole : take (room m) (text-of n ends) ≡ text-of n ends =
+      take-all (room m) (text-of n ends) (omega (arith, length-text n m ends (w .fits .even) (w .few-lines))) in
       let all-ends : take (2 * m) ends ≡ ends = take-all (2 * m) ends (omega (arith, w .fits .even)) in
       e
-      ∙ (rw (opened, take-at f (drop 9 text₀) 9 nine, all-ends, past, length-text n m ends (w .fits .even) (w .few-lines), frames-two n m ends))
+      ∙ (rw (opened, take-at f (drop 9 text₀) 9 nine, all-ends, past, whole, frames-two n m ends))

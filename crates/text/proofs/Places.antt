@@ -11,7 +11,7 @@ use Rattle.laws.specs.Tests.{all}
 use Rattle.laws.proofs.Cases.{cases, bool, true-false, lt-or}
 use Rattle.laws.proofs.Tests.{all-of, all-yes}
 use Rattle.text.specs.Text.{is-digit, feed, room, word, lines-in, right, has-form}
-use Rattle.text.specs.Inside.{is-word, is-frame, Word, Opened, Form}
+use Rattle.text.specs.Inside.{is-word, is-frame, Word, Number, Opened, Form}
 use Rattle.text.proofs.FramesBack.{right-digit, right-feed}
 use Rattle.text.proofs.TextBack.{form-of, form-yes, form-no-length, form-no-place}
 
@@ -120,17 +120,17 @@ module _ (text : List ℕ) where
       pub lines-word : Word text 4
       lines-word = record { within = omega arith; digits = second-of text 0 (sym is-first ∙ not-false first right-first) }
 
-      module _ (w lines : ℕ) (is-w : (w ≡ word (drop 4 text)) × (w < 65536)) (is-lines : (lines ≡ w) × (lines < 65536)) where
+      module _ (lines : ℕ) (is : Number text 4 lines) where
         pub form-no-room : (length text ≡ 9 * (lines + 1) → ⊥) → false ≡ has-form text
-        form-no-room d = sym (form-no-length text (λ e. d (rw (is-lines .0, is-w .0) e)))
+        form-no-room d = sym (form-no-length text (λ e. d (rw (is .said) e)))
 
         module _ (long : length text ≡ 9 * (lines + 1)) where
           pub opened : Opened text lines
-          opened = record { long = long; few = is-lines .1; first = sym is-first ∙ not-false first right-first }
+          opened = record { long = long; few = is .small; first = sym is-first ∙ not-false first right-first }
 
           pub form-last : (r : Bool) → r ≡ all (right text) (length text) → r ≡ has-form text
           form-last r e =
-              let room-is : length text ≡ room (lines-in text) = rw (is-lines .0, is-w .0) at long in
+              let room-is : length text ≡ room (lines-in text) = rw (is .said) at long in
               cases (bool (all (right text) (length text)))
               (λ t. e ∙ t ∙ sym (form-yes text (record { long = room-is; places = all-of (right text) (length text) t })))
               (λ f. e ∙ f ∙ contrary (λ t. all-yes (right text) (length text) (form-of text t .places)) f)

@@ -13,7 +13,7 @@ use Rattle.laws.specs.Tests.{both, any, all}
 use Rattle.laws.proofs.Cases.{cases, bool, true-false, lt-or}
 use Rattle.laws.proofs.Tests.{both-yes, any-no, all-of}
 use Rattle.text.specs.Text.{digit, is-digit, value, digits, number-on, word}
-use Rattle.text.specs.Inside.{is-word, Word}
+use Rattle.text.specs.Inside.{is-word, Word, Number}
 use Rattle.text.proofs.DigitsBack.{digit-low, digit-high, value-is, is-digit-yes, is-digit-of}
 
 -- One byte
@@ -127,12 +127,12 @@ module _ (text : List ℕ) (at : ℕ) (w : Word text at) where
 
   pub word-is : (a b c d : ℕ) → (a ≡ value (getD text at 0)) × (a < 16) → (b ≡ value (getD text (at + 1) 0)) × (b < 16)
       → (c ≡ value (getD text (at + 2) 0)) × (c < 16) → (d ≡ value (getD text (at + 3) 0)) × (d < 16)
-      → 16 * (16 * (16 * a + b) + c) + d ≡ word (drop at text)
+      → Number text at (16 * (16 * (16 * a + b) + c) + d)
   word-is a b c d p q r s =
       let first : getD (drop at text) 0 0 ≡ getD text at 0 = getD-drop at text 0 0 ∙ ap (λ k. getD text k 0) (add-zero at) in
       let four = word-four (drop at text) (omega (arith, length-drop at text, w .within)) in
       let four′ = rw (first, getD-drop at text 1 0, getD-drop at text 2 0, getD-drop at text 3 0) at four in
-      omega (arith, four′)
+      record { said = omega (arith, four′); small = omega arith }
 
 -- Four digits written
 

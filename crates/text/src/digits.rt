@@ -2,10 +2,10 @@
 ghost use mathlib.Core.Bool.{Bool, true};
 ghost use mathlib.Core.Path.{_≡_};
 ghost use Prim.Native.Nat.{ℕ, _+_, _≤_, _<_};
-ghost use lib.ListN.{length, drop};
+ghost use lib.ListN.{length};
 ghost use lib.Seq.{sets};
-ghost use Rattle.text.specs.Text.{digit, «is-digit», value, digits, word};
-ghost use Rattle.text.specs.Inside.{«is-word», Word};
+ghost use Rattle.text.specs.Text.{digit, «is-digit», value, digits};
+ghost use Rattle.text.specs.Inside.{«is-word», Word, Number};
 
 // Whether a byte is a digit.
 fn is_digit(byte: u8) -> bool
@@ -65,13 +65,21 @@ pub(crate) fn is_word(text: &[u8], at: usize) -> bool
 // The number in the four digits at a place.
 pub(crate) fn word_at(text: &[u8], at: usize) -> u16
     requires { ⌜ Word (now text) at ⌝ }
-    ensures { λ r. ⌜ (r ≡ word (drop at (now (text .entry)))) × (r < 65536) ⌝ }
+    ensures { λ r. ⌜ Number (now (text .entry)) at r ⌝ }
 {
     let a = value(text[at]);
     let b = value(text[at + 1]);
     let c = value(text[at + 2]);
     let d = value(text[at + 3]);
     16 * (16 * (16 * a + b) + c) + d
+}
+
+// The same, as an index.
+pub(crate) fn number_at(text: &[u8], at: usize) -> usize
+    requires { ⌜ Word (now text) at ⌝ }
+    ensures { λ r. ⌜ Number (now (text .entry)) at r ⌝ }
+{
+    network::wide(word_at(text, at))
 }
 
 // Writes a number in four digits from a place on.

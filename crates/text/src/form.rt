@@ -17,7 +17,7 @@ pub(crate) fn has_form(text: &[u8]) -> bool
     if !is_frame(text, 0) {
         return false;
     }
-    let lines = network::wide(digits::word_at(text, 4));
+    let lines = digits::number_at(text, 4);
     if text.len() != 9 * (lines + 1) {
         return false;
     }

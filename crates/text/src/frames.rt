@@ -3,15 +3,15 @@ ghost use mathlib.Core.Path.{_≡_};
 ghost use Prim.Native.Nat.{ℕ, _+_, _*_, _/_, _≤_, _<_};
 ghost use lib.ListN.{length};
 ghost use lib.Seq.{sets};
-ghost use Rattle.text.specs.Text.{frame, «text-of», «ends-in»};
-ghost use Rattle.text.specs.Calls.{begun};
+ghost use Rattle.laws.specs.Lists.{filled};
+ghost use Rattle.text.specs.Text.{frame, «text-of», room, «ends-in»};
 ghost use Rattle.text.specs.Inside.{Parsable, Roomy, Writable, «after-first»};
 use crate::digits;
 
 // Takes the two ends of each line from a text that has the form.
 pub(crate) fn take_ends(text: &[u8], lines: usize, ends: &mut [u16])
     requires { ⌜ Parsable (now text) lines (now ends) ⌝ }
-    ensures { λ _. ⌜ now (ends .exit) ≡ begun («ends-in» (now (text .entry))) (now (ends .entry)) ⌝ }
+    ensures { λ _. ⌜ now (ends .exit) ≡ filled (2 * lines) («ends-in» (now (text .entry))) (now (ends .entry)) ⌝ }
 {
     let mut k = 0;
     while k < lines {
@@ -22,22 +22,10 @@ pub(crate) fn take_ends(text: &[u8], lines: usize, ends: &mut [u16])
     }
 }
 
-// Copies ends to the beginning of a buffer.
-pub(crate) fn hand_over(ends: &[u16], buffer: &mut [u16])
-    requires { ⌜ length (now ends) ≤ length (now buffer) ⌝ }
-    ensures { λ _. ⌜ now (buffer .exit) ≡ begun (now (ends .entry)) (now (buffer .entry)) ⌝ }
-{
-    let mut i = 0;
-    while i < ends.len() {
-        buffer[i] = ends[i];
-        i += 1;
-    }
-}
-
 // Puts the text of a network at the beginning of a buffer.
 pub(crate) fn put_text(vertices: usize, ends: &[u16], text: &mut [u8])
     requires { ⌜ Writable vertices (now ends) (now text) ⌝ }
-    ensures { λ _. ⌜ now (text .exit) ≡ begun («text-of» vertices (now (ends .entry))) (now (text .entry)) ⌝ }
+    ensures { λ _. ⌜ now (text .exit) ≡ filled (room (length (now (ends .entry)) / 2)) («text-of» vertices (now (ends .entry))) (now (text .entry)) ⌝ }
 {
     let lines = ends.len() / 2;
     put_frame(text, 0, vertices as u16, lines as u16);

@@ -1,6 +1,5 @@
 -- `word_at` computes its definition: four digits, each sixteen times what stands before it.
 use Rattle.text.proofs.Words.{digit-first, digit-second, digit-third, digit-fourth, word-is}
-use native.Mathlib.Omega.{arith}
 use borrow.Author.Needs.{needs}
 use Rattle.text.proofs.digits.word_at.Statement.{statement}
 use Rattle.text.proofs.digits.word_at.Tie as tie
@@ -57,7 +56,7 @@ add-result-3 : tie.Need-add-result-3
 add-result-3 c = search needs
 
 returns : tie.Need-returns
-returns c = (search word-is, omega arith)
+returns c = search word-is
 
 pub word-at-spec : {M : Type 1} → statement M
 word-at-spec =

@@ -14,11 +14,8 @@ is-frame-requires c κs = search needs
 returns-2 : tie.Need-returns-2
 returns-2 c = search (form-no-first, not-true)
 
-word-at-requires : tie.Need-word-at-requires
-word-at-requires c κs = search lines-word
-
-wide-requires : tie.Need-wide-requires
-wide-requires c κs = search needs
+number-at-requires : tie.Need-number-at-requires
+number-at-requires c κs = search lines-word
 
 add-if3 : tie.Need-add-if3
 add-if3 c = search needs
@@ -27,19 +24,13 @@ mul-if3 : tie.Need-mul-if3
 mul-if3 c = search needs
 
 returns-3 : tie.Need-returns-3
-returns-3 c =
-    form-no-room _ (c .before .before .before .before .before .if1 .left) _ (c .before .before .before .before .is-frame .ensures) (c .before .before .before .if2 .left) _ _ (c .before .before .word-at .ensures)
-    (c .before .wide .ensures) (c .if3 .taken)
+returns-3 c = search form-no-room
 
 are-frames-requires : tie.Need-are-frames-requires
-are-frames-requires c κs =
-    opened _ (c .before .before .before .before .before .if1 .left) _ (c .before .before .before .before .is-frame .ensures) (c .before .before .before .if2 .left) _ _ (c .before .before .word-at .ensures)
-    (c .before .wide .ensures) (c .if3 .left)
+are-frames-requires c κs = search opened
 
 returns-4 : tie.Need-returns-4
-returns-4 c =
-    form-last _ (c .before .before .before .before .before .before .if1 .left) _ (c .before .before .before .before .before .is-frame .ensures) (c .before .before .before .before .if2 .left) _ _ (c .before .before .before .word-at .ensures)
-    (c .before .before .wide .ensures) (c .before .if3 .left) _ (c .are-frames .ensures)
+returns-4 c = search form-last
 
 pub has-form-spec : {M : Type 1} → statement M
 has-form-spec =
@@ -48,8 +39,7 @@ has-form-spec =
     returns
     is-frame-requires
     returns-2
-    word-at-requires
-    wide-requires
+    number-at-requires
     add-if3
     mul-if3
     returns-3
