@@ -3,11 +3,12 @@ use mathlib.Core.Bool.{Bool, true, false}
 use mathlib.Core.List.{List, _++_}
 use mathlib.Core.Logic.{_⊎_, inl, inr}
 use mathlib.Core.Path.{_≡_, refl, sym, _∙_, ap}
-use Prim.Native.Nat.{ℕ, zero, suc, _+_, _*_, _/_, _≤_, _<_}
+use Prim.Native.Nat.{ℕ, zero, suc, _+_, _*_, _/_, _%_, _≤_, _<_}
 use native.Mathlib.Omega.{arith}
 use lib.Dec.{ltb}
-use lib.ListN.{length}
-use borrow.Author.Tests.{le-ltb, ltb-false}
+use lib.ListN.{length, take, drop}
+use lib.Seq.{take-at, take-all}
+use borrow.Author.Tests.{le-ltb, ltb-false, ne-eqb}
 use Rattle.laws.specs.Tests.{either}
 use Rattle.laws.specs.Lists.{filled}
 use Rattle.laws.specs.Checks.{check}
@@ -20,11 +21,36 @@ use Rattle.network.specs.declared.Answer.{Answer}
 use Rattle.text.specs.Text.{room, text-of, vertices-in, lines-in, ends-in, has-form}
 use Rattle.text.specs.Calls.{Read, Write}
 
+-- Lists and their lengths
+
+-- what a buffer begins with that was filled with a whole list
+pub take-filled : (n : ℕ) (l old : List ℕ) → length l ≡ n → take n (filled n l old) ≡ l
+take-filled n l old e = let all : take n l ≡ l = take-all n l (omega arith) in rw all (take-at l (drop n old) n e)
+
+pub not-odd : (count m : ℕ) → count ≡ 2 * m → odd count ≡ false
+unfolding odd
+not-odd count m e = ne-eqb (count % 2) 1 (λ q. omega arith)
+
 -- Checks 4 to 6, twice
 
 pub formed-once : (n : ℕ) (ends : List ℕ) {R R′ : ℕ → Type 0} {G G′ C : Type 0} → ((k : ℕ) → R k → R′ k → C) → (G → G′ → C)
     → Formed n ends R G → Formed n ends R′ G′ → C
 formed-once n ends f g = check-once (f 4) (check-once (f 5) (check-once g (f 6)))
+
+-- .. and what follows from their outcomes
+pub formed-map : (n : ℕ) (ends : List ℕ) {R : ℕ → Type 0} {G : Type 0} → Formed n ends R G → (R′ : ℕ → Type 0) (G′ : Type 0)
+    → ((k : ℕ) → 0 < k → R k → R′ k) → (G → G′) → Formed n ends R′ G′
+formed-map n ends (inl (p, a)) R′ G′ f g = inl (p, f 4 (omega arith) a)
+formed-map n ends (inr (p, inl (q, a))) R′ G′ f g = inr (p, inl (q, f 5 (omega arith) a))
+formed-map n ends (inr (p, inr (q, inl (c, a)))) R′ G′ f g = inr (p, inr (q, inl (c, g a)))
+formed-map n ends (inr (p, inr (q, inr (c, a)))) R′ G′ f g = inr (p, inr (q, inr (c, f 6 (omega arith) a)))
+
+-- checks 4 to 6 are what is left of 2 to 6 where the count is within the limits and even
+pub checked-formed : (n : ℕ) (ends : List ℕ) (R : ℕ → Type 0) (G : Type 0) → Checked n ends false R G → oversize n (length ends) ≡ false → odd (length ends) ≡ false
+    → Formed n ends R G
+checked-formed n ends R G (inl (t, a)) two three = true-false t two
+checked-formed n ends R G (inr (d, inl (t, a))) two three = true-false t (either-no three refl)
+checked-formed n ends R G (inr (d, inr (e, x))) two three = x
 
 -- The ends meet none of 4 to 6.
 abbrev pub Sound : ℕ → List ℕ → Type 0
@@ -46,7 +72,7 @@ sound-inside n ends (inl (p, a)) = absurd a
 sound-inside n ends (inr (p, s)) = cases (bool (astray n ends)) (λ t. absurd (p t)) (λ f. f)
 
 -- a refusal, with the buffer as it was
-abbrev Kept : Answer → List ℕ → List ℕ → ℕ → Type 0
+abbrev pub Kept : Answer → List ℕ → List ℕ → ℕ → Type 0
 Kept r old new k = (r ≡ refused k) × (new ≡ old)
 
 is-false : {b : Bool} → (b ≡ true → ⊥) → b ≡ false

@@ -6,8 +6,6 @@ use mathlib.Core.Path.{_≡_, refl, sym, _∙_, ap, subst}
 use Prim.Native.Nat.{ℕ, zero, suc, _+_, _*_, _/_, _%_, _≤_, _<_}
 use native.Mathlib.Omega.{arith}
 use lib.ListN.{getD, length, take, drop}
-use lib.Seq.{take-at, take-all}
-use borrow.Author.Tests.{ne-eqb}
 use Rattle.laws.specs.Lists.{filled}
 use Rattle.laws.proofs.Checks.{check-once}
 use Rattle.network.specs.Numbers.{refused, done, oversize, odd, astray}
@@ -17,7 +15,7 @@ use Rattle.network.proofs.Sifting.{checked-once}
 use Rattle.text.specs.Text.{room, text-of, vertices-in, lines-in, ends-in, has-form}
 use Rattle.text.specs.Calls.{Read, Write}
 use Rattle.text.proofs.TextBack.{form-of, length-ends-in, text-again, length-text, lines-again, vertices-again, ends-again, text-has-form}
-use Rattle.text.proofs.Accepted.{formed-once, Sound, sound-inside, Accepts, Took, read-done, read-accepts, Grants, Gave, write-done, write-grants}
+use Rattle.text.proofs.Accepted.{take-filled, not-odd, formed-once, Sound, sound-inside, Accepts, Took, read-done, read-accepts, Grants, Gave, write-done, write-grants}
 
 -- Two results that one statement allows are equal
 
@@ -31,14 +29,6 @@ pub write-once : (n : ℕ) (ends text : List ℕ) (r r′ : Answer) (a a′ : Li
 write-once n ends text r r′ a a′ = checked-once n ends _ (λ k. alike {a = refused k} {c = text}) alike
 
 -- Read, then written
-
--- what a buffer begins with that was filled with a whole list
-take-filled : (n : ℕ) (l old : List ℕ) → length l ≡ n → take n (filled n l old) ≡ l
-take-filled n l old e = let all : take n l ≡ l = take-all n l (omega arith) in rw all (take-at l (drop n old) n e)
-
-not-odd : (count m : ℕ) → count ≡ 2 * m → odd count ≡ false
-unfolding odd
-not-odd count m e = ne-eqb (count % 2) 1 (λ q. omega arith)
 
 pub read-then-write : (text ends : List ℕ) (r : Answer) (ends′ : List ℕ) → Read text ends r ends′ → r .number ≡ 0
     → (buffer : List ℕ) (s : Answer) (buffer′ : List ℕ) → length text ≤ length buffer

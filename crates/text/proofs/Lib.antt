@@ -7,3 +7,5 @@ pub mod Places
 pub mod Filling
 pub mod Accepted
 pub mod Calls
+pub mod Reading
+pub mod Writing
