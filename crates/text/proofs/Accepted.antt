@@ -1,22 +1,18 @@
 -- What the checks of read and write come to: two outcomes of the same checks, an outcome with 0, and the outcome where nothing is in the way.
 use mathlib.Core.Bool.{Bool, true, false}
-use mathlib.Core.List.{List, _++_}
-use mathlib.Core.Logic.{_⊎_, inl, inr}
-use mathlib.Core.Path.{_≡_, refl, sym, _∙_, ap}
-use Prim.Native.Nat.{ℕ, zero, suc, _+_, _*_, _/_, _%_, _≤_, _<_}
+use mathlib.Core.List.{List}
+use mathlib.Core.Logic.{inl, inr}
+use mathlib.Core.Path.{_≡_, refl, ap}
+use Prim.Native.Nat.{ℕ, _*_, _/_, _%_, _≤_, _<_}
 use native.Mathlib.Omega.{arith}
-use lib.Dec.{ltb}
 use lib.ListN.{length, take, drop}
 use lib.Seq.{take-at, take-all}
 use borrow.Author.Tests.{le-ltb, ltb-false, ne-eqb}
-use Rattle.laws.specs.Tests.{either}
 use Rattle.laws.specs.Lists.{filled}
-use Rattle.laws.specs.Checks.{check}
 use Rattle.laws.proofs.Cases.{cases, bool, true-false}
 use Rattle.laws.proofs.Checks.{check-once}
 use Rattle.laws.proofs.Tests.{either-no, either-neither}
-use Rattle.network.specs.Network.{network, Connected}
-use Rattle.network.specs.Numbers.{refused, done, oversize, odd, astray, mispaired, Formed, Checked}
+use Rattle.network.specs.Numbers.{refused, done, oversize, odd, astray, Formed, Checked}
 use Rattle.network.specs.declared.Answer.{Answer}
 use Rattle.text.specs.Text.{room, text-of, vertices-in, lines-in, ends-in, has-form}
 use Rattle.text.specs.Calls.{Read, Write}
@@ -109,6 +105,16 @@ read-accepts text ends r ends′ w (inl (p, a)) = true-false (w .form) p
 read-accepts text ends r ends′ w (inr (f, inl (p, a))) = true-false p (w .sized)
 read-accepts text ends r ends′ w (inr (f, inr (s, inl (p, a)))) = true-false p (le-ltb _ _ (w .roomy))
 read-accepts text ends r ends′ w (inr (f, inr (s, inr (l, g)))) = sound-formed (vertices-in text) (ends-in text) (Kept r ends ends′) (w .sound) g
+
+pub read-formless : (text ends : List ℕ) (r : Answer) (ends′ : List ℕ) → has-form text ≡ false → Read text ends r ends′ → Kept r ends ends′ 1
+read-formless text ends r ends′ f (inl (p, a)) = a
+read-formless text ends r ends′ f (inr (n, x)) = absurd (n f)
+
+pub read-oversize : (text ends : List ℕ) (r : Answer) (ends′ : List ℕ) → has-form text ≡ true → oversize (vertices-in text) (2 * lines-in text) ≡ true
+    → Read text ends r ends′ → Kept r ends ends′ 2
+read-oversize text ends r ends′ t o (inl (p, a)) = true-false t p
+read-oversize text ends r ends′ t o (inr (f, inl (p, a))) = a
+read-oversize text ends r ends′ t o (inr (f, inr (n, x))) = absurd (n o)
 
 -- Write
 

@@ -1,21 +1,21 @@
 -- What read and write say, together: each settles its result and its buffer; accepted text that is read and then written is the same text; a network
 -- that is written and then read is the same network.
-use mathlib.Core.Bool.{Bool, true, false}
-use mathlib.Core.List.{List, _++_}
-use mathlib.Core.Path.{_≡_, refl, sym, _∙_, ap, subst}
-use Prim.Native.Nat.{ℕ, zero, suc, _+_, _*_, _/_, _%_, _≤_, _<_}
+use mathlib.Core.Bool.{false}
+use mathlib.Core.List.{List}
+use mathlib.Core.Path.{_≡_, sym, _∙_, ap, subst}
+use Prim.Native.Nat.{ℕ, _*_, _/_, _≤_, _<_}
 use native.Mathlib.Omega.{arith}
-use lib.ListN.{getD, length, take, drop}
+use lib.ListN.{getD, length, take}
 use Rattle.laws.specs.Lists.{filled}
 use Rattle.laws.proofs.Checks.{check-once}
-use Rattle.network.specs.Numbers.{refused, done, oversize, odd, astray}
+use Rattle.network.specs.Numbers.{refused, done, oversize}
 use Rattle.network.specs.declared.Answer.{Answer}
 use Rattle.network.proofs.Checks.{sized, even, none-astray}
 use Rattle.network.proofs.Sifting.{checked-once}
-use Rattle.text.specs.Text.{room, text-of, vertices-in, lines-in, ends-in, has-form}
+use Rattle.text.specs.Text.{room, text-of, vertices-in, lines-in, ends-in}
 use Rattle.text.specs.Calls.{Read, Write}
 use Rattle.text.proofs.TextBack.{form-of, length-ends-in, text-again, length-text, lines-again, vertices-again, ends-again, text-has-form}
-use Rattle.text.proofs.Accepted.{take-filled, not-odd, formed-once, Sound, sound-inside, Accepts, Took, read-done, read-accepts, Grants, Gave, write-done, write-grants}
+use Rattle.text.proofs.Accepted.{take-filled, not-odd, formed-once, sound-inside, read-done, read-accepts, write-done, write-grants}
 
 -- Two results that one statement allows are equal
 

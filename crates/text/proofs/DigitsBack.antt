@@ -1,16 +1,14 @@
 -- Digits and back, for any number of digits: a number's digits say the number, and what digits say has those digits. A digit's value is found by looking
 -- it up among the sixteen, so all rests on one fact, that no two digits have the same byte.
-use mathlib.Core.Bool.{Bool, true, false}
+use mathlib.Core.Bool.{true}
 use mathlib.Core.List.{List, [], _∷_, _++_, append-nil}
 use mathlib.Core.Path.{_≡_, refl, sym, _∙_, ap}
 use Prim.Native.Nat.{ℕ, zero, suc, _+_, _*_, _/_, _%_, _^_, _≤_, _<_, suc-le-suc, zero-le}
 use native.Mathlib.Nat.{add-zero, pow-zero, pow-suc}
 use native.Mathlib.Omega.{arith}
-use lib.Dec.{eqb, ltb}
 use lib.ListN.{getD, length, length-append, List·getD-append}
 use lib.Seq.{append-snoc, getD-at}
 use borrow.Author.Tests.{eq-eqb, ne-eqb, lt-ltb, le-ltb, eqb-true}
-use Rattle.laws.specs.Tests.{any, least}
 use Rattle.laws.proofs.Cases.{cases, lt-or}
 use Rattle.laws.proofs.Tests.{any-of, any-yes, least-is}
 use Rattle.text.specs.Text.{digit, is-digit, value, digits, number-on, number}

@@ -4,11 +4,11 @@ use mathlib.Core.Path.{_≡_, refl, sym, _∙_, ap}
 use Prim.Native.Nat.{ℕ, zero, suc, _+_, _*_, _/_, _≤_, _<_}
 use native.Mathlib.Nat.{add-zero}
 use native.Mathlib.Omega.{arith}
-use lib.ListN.{getD, set, length, take, drop, length-append, length-set, length-take, length-drop, take-append-drop}
-use lib.Seq.{sets, sets-eq, length-sets, length-take-le, take-at, take-all, take-suc, drop-append-add, drop-drop, append-snoc}
+use lib.ListN.{getD, set, length, take, drop, length-append, length-set, length-drop, take-append-drop}
+use lib.Seq.{sets, sets-eq, length-sets, length-take-le, take-at, take-all, take-suc, drop-append-add, drop-drop}
 use Rattle.laws.specs.Lists.{filled}
-use Rattle.text.specs.Text.{digits, feed, frame, frames, text-of, room, word, numbers, lines-in, ends-in}
-use Rattle.text.specs.Inside.{Word, Number, Form, Parsable, Roomy, Writable, after-first}
+use Rattle.text.specs.Text.{digits, feed, frame, frames, text-of, room, word, numbers, ends-in}
+use Rattle.text.specs.Inside.{Word, Number, Parsable, Roomy, Writable, after-first}
 use Rattle.text.proofs.DigitsBack.{length-digits}
 use Rattle.text.proofs.TextBack.{length-text, length-ends-in}
 use Rattle.text.proofs.Places.{form-word}

@@ -1,19 +1,19 @@
 -- The form, frame by frame: a frame is right where its two words are digits and its last byte is a line feed, and all places are right where all frames are.
 use mathlib.Core.Bool.{Bool, true, false, not}
 use mathlib.Core.List.{List}
-use mathlib.Core.Path.{_≡_, refl, sym, _∙_, ap}
-use Prim.Native.Nat.{ℕ, zero, suc, _+_, _-_, _*_, _/_, _%_, _≤_, _<_}
+use mathlib.Core.Path.{_≡_, sym, _∙_}
+use Prim.Native.Nat.{ℕ, _+_, _-_, _*_, _%_, _≤_, _<_}
 use native.Mathlib.Omega.{arith}
 use lib.Dec.{eqb}
-use lib.ListN.{getD, length, drop}
+use lib.ListN.{getD, length}
 use borrow.Author.Tests.{not-false}
 use Rattle.laws.specs.Tests.{all}
 use Rattle.laws.proofs.Cases.{cases, bool, true-false, lt-or}
 use Rattle.laws.proofs.Tests.{all-of, all-yes}
-use Rattle.text.specs.Text.{is-digit, feed, room, word, lines-in, right, has-form}
+use Rattle.text.specs.Text.{feed, room, lines-in, right, has-form}
 use Rattle.text.specs.Inside.{is-word, is-frame, Word, Number, Opened, Form}
 use Rattle.text.proofs.FramesBack.{right-digit, right-feed}
-use Rattle.text.proofs.TextBack.{form-of, form-yes, form-no-length, form-no-place}
+use Rattle.text.proofs.TextBack.{form-of, form-yes, form-no-length}
 
 -- what a Boolean cannot be, where another follows from it that is false
 contrary : {a b : Bool} → (a ≡ true → b ≡ true) → b ≡ false → false ≡ a

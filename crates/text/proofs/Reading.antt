@@ -1,17 +1,17 @@
 -- What `read` returns, one lemma for each place where it does, and what it asks of the functions that it calls.
 use mathlib.Core.Bool.{Bool, true, false, not}
-use mathlib.Core.List.{List, _++_}
-use mathlib.Core.Logic.{_⊎_, inl, inr}
+use mathlib.Core.List.{List}
+use mathlib.Core.Logic.{inl, inr}
 use mathlib.Core.Path.{_≡_, refl, sym, _∙_, ap, subst}
-use Prim.Native.Nat.{ℕ, _+_, _*_, _/_, _%_, _≤_, _<_}
+use Prim.Native.Nat.{ℕ, _*_, _≤_, _<_}
 use native.Mathlib.Omega.{arith}
 use lib.Dec.{ltb}
-use lib.ListN.{length, take, drop, replicate, length-replicate}
+use lib.ListN.{length, take, replicate, length-replicate}
 use lib.Seq.{take-all, length-take-le}
-use borrow.Author.Tests.{lt-ltb, le-ltb, ne-eqb, not-true, not-false}
+use borrow.Author.Tests.{lt-ltb, le-ltb, not-true, not-false}
 use Rattle.laws.specs.Checks.{check}
 use Rattle.laws.specs.Lists.{filled}
-use Rattle.laws.proofs.Cases.{cases, true-false}
+use Rattle.laws.proofs.Cases.{true-false}
 use Rattle.laws.proofs.Filling.{filled-long}
 use Rattle.network.specs.Network.{network}
 use Rattle.network.specs.Numbers.{refused, done, oversize, Formed}
@@ -19,7 +19,7 @@ use Rattle.network.specs.declared.Answer.{Answer}
 use Rattle.network.proofs.Checks.{sized}
 use Rattle.search.specs.Orient.{Explored, unsearched, searched}
 use Rattle.search.specs.declared.Search.{Search}
-use Rattle.text.specs.Text.{vertices-in, lines-in, ends-in, has-form}
+use Rattle.text.specs.Text.{ends-in, has-form}
 use Rattle.text.specs.Calls.{Read}
 use Rattle.text.specs.Inside.{Word, Number, Form, Parsable}
 use Rattle.text.proofs.TextBack.{form-of, length-ends-in}

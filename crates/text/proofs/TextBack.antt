@@ -1,17 +1,15 @@
 -- The form, taken apart and put together; and the two round trips of a whole text, before any check of its network: a text that has the form is the text
 -- of what it says, and the text of a network has the form and says that network.
-use mathlib.Core.Bool.{Bool, true, false}
-use mathlib.Core.List.{List, [], _∷_, _++_}
-use mathlib.Core.Path.{_≡_, refl, sym, _∙_, ap}
-use Prim.Native.Nat.{ℕ, zero, suc, _+_, _*_, _/_, _≤_, _<_, suc-le-suc, zero-le}
+use mathlib.Core.Bool.{true, false}
+use mathlib.Core.List.{List, _∷_, _++_}
+use mathlib.Core.Path.{_≡_}
+use Prim.Native.Nat.{ℕ, suc, _*_, _/_, _<_}
 use native.Mathlib.Omega.{arith}
-use lib.Dec.{eqb}
 use lib.ListN.{getD, length, drop}
-use borrow.Author.Tests.{eq-eqb, ne-eqb, eqb-true}
-use Rattle.laws.specs.Tests.{both, all}
-use Rattle.laws.proofs.Cases.{cases, bool, true-false}
-use Rattle.laws.proofs.Tests.{both-yes, both-of, both-no-first, both-no-second, all-of, all-yes}
-use Rattle.text.specs.Text.{frame, frames, text-of, room, word, numbers, vertices-in, lines-in, ends-in, right, has-form}
+use borrow.Author.Tests.{eq-eqb, eqb-true}
+use Rattle.laws.proofs.Cases.{cases, bool}
+use Rattle.laws.proofs.Tests.{both-yes, both-of, all-of, all-yes}
+use Rattle.text.specs.Text.{frame, frames, text-of, room, numbers, vertices-in, lines-in, ends-in, right, has-form}
 use Rattle.text.specs.Inside.{Form}
 use Rattle.text.proofs.FramesBack.{frame-first, frame-second, frame-rest, frames-two, length-frames, length-numbers, numbers-frames, frames-right, frames-numbers}
 
@@ -27,12 +25,9 @@ pub form-yes : (text : List ℕ) → Form text → has-form text ≡ true
 unfolding has-form
 form-yes text f = both-yes (eq-eqb (length text) (room (lines-in text)) (f .long)) (all-yes (right text) (length text) (f .places))
 
--- no text of another length has the form, and none with a wrong place
+-- no text of another length has the form
 pub form-no-length : (text : List ℕ) → (length text ≡ room (lines-in text) → ⊥) → has-form text ≡ false
 form-no-length text d = cases (bool (has-form text)) (λ t. absurd (d (form-of text t .long))) (λ f. f)
-
-pub form-no-place : (text : List ℕ) (i : ℕ) → i < length text → right text i ≡ false → has-form text ≡ false
-form-no-place text i h e = cases (bool (has-form text)) (λ t. true-false (form-of text t .places i h) e) (λ f. f)
 
 -- The text of what a text says
 

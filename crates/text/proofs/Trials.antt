@@ -1,10 +1,18 @@
--- Small texts, tried by computation.
-use mathlib.Core.Bool.{Bool, true, false}
+-- Small texts, tried by computation, and what read's statement says of some of them.
+use mathlib.Core.Bool.{true, false}
 use mathlib.Core.List.{List, [], _∷_}
-use mathlib.Core.Path.{_≡_, refl}
+use mathlib.Core.Path.{_≡_, refl, subst}
+use mathlib.Core.Logic.{inl, inr}
 use Prim.Native.Nat.{ℕ}
+use native.Mathlib.Omega.{arith}
 use Rattle.laws.specs.Tests.{both, either, all, any, least}
+use Rattle.laws.proofs.Cases.{true-false}
+use Rattle.network.specs.Network.{Path, here, network, Connected}
+use Rattle.network.specs.Numbers.{refused, done, oversize, astray, mispaired}
+use Rattle.network.specs.declared.Answer.{Answer}
 use Rattle.text.specs.Text.{digit, is-digit, value, digits, number-on, frame, frames, text-of, word, numbers, vertices-in, lines-in, ends-in, right, has-form}
+use Rattle.text.specs.Calls.{Read}
+use Rattle.text.proofs.Accepted.{Sound, read-formless, read-oversize, read-accepts}
 
 -- 00010000 and a line feed: one vertex and no line.
 unfoldable pub lone : List ℕ
@@ -37,6 +45,14 @@ unended = 48 ∷ 48 ∷ 48 ∷ 49 ∷ 48 ∷ 48 ∷ 48 ∷ 48 ∷ []
 pub unended-has-not : has-form unended ≡ false
 unfolding unended has-form right is-digit digit value number-on word all any either both least
 unended-has-not = refl
+
+-- 00000000 and a line feed: no vertex, in the right form.
+unfoldable pub nothing : List ℕ
+nothing = 48 ∷ 48 ∷ 48 ∷ 48 ∷ 48 ∷ 48 ∷ 48 ∷ 48 ∷ 10 ∷ []
+
+pub nothing-has-form : has-form nothing ≡ true
+unfolding nothing has-form right is-digit digit value number-on word all any either both least
+nothing-has-form = refl
 
 -- No byte at all, a carriage return before the line feed, and a line too few.
 pub empty-has-not : has-form [] ≡ false
@@ -88,3 +104,27 @@ k4-written = refl
 pub highest : (digits 4 65535 ≡ 102 ∷ 102 ∷ 102 ∷ 102 ∷ []) × (number-on 0 (digits 4 65535) ≡ 65535)
 unfolding digit digits value number-on least
 highest = (refl, refl)
+
+-- What read's statement says: one vertex is read, a capital digit and a missing line feed give 1, no vertex gives 2.
+
+lone-connected : Connected (network 1 [])
+lone-connected u v h k = subst (λ (w : ℕ). Path (network 1 []) u w) (omega arith) here
+
+lone-sound : Sound 1 []
+unfolding astray mispaired any
+lone-sound = inr (λ t. true-false t refl, inr (λ t. true-false t refl, inl (lone-connected, tt)))
+
+module _ (ends : List ℕ) (r : Answer) (ends′ : List ℕ) where
+  pub lone-is-read : Read lone ends r ends′ → (r ≡ done 1 0) × (ends′ ≡ ends)
+  unfolding lone digit value number-on word numbers least oversize either
+  lone-is-read = read-accepts lone ends r ends′ (record { form = lone-has-form; sized = refl; roomy = omega arith; sound = lone-sound })
+
+  pub capital-is-refused : Read capital ends r ends′ → (r ≡ refused 1) × (ends′ ≡ ends)
+  capital-is-refused = read-formless capital ends r ends′ capital-has-not
+
+  pub unended-is-refused : Read unended ends r ends′ → (r ≡ refused 1) × (ends′ ≡ ends)
+  unended-is-refused = read-formless unended ends r ends′ unended-has-not
+
+  pub nothing-is-refused : Read nothing ends r ends′ → (r ≡ refused 2) × (ends′ ≡ ends)
+  unfolding nothing digit value number-on word least oversize either
+  nothing-is-refused = read-oversize nothing ends r ends′ nothing-has-form refl

@@ -1,15 +1,15 @@
 -- What the functions on digits come to: a byte's digit by its range, four digits read from a place and written to it.
 use mathlib.Core.Bool.{Bool, true, false}
-use mathlib.Core.List.{List, [], _∷_, _++_}
+use mathlib.Core.List.{List, [], _∷_}
 use mathlib.Core.Path.{_≡_, refl, sym, _∙_, ap}
-use Prim.Native.Nat.{ℕ, zero, suc, _+_, _-_, _*_, _/_, _%_, _≤_, _<_}
+use Prim.Native.Nat.{ℕ, suc, _+_, _-_, _*_, _/_, _%_, _≤_, _<_}
 use native.Mathlib.Nat.{add-zero}
 use native.Mathlib.Omega.{arith}
-use lib.Dec.{eqb, leb}
-use lib.ListN.{getD, set, length, take, drop, length-set, length-drop}
+use lib.Dec.{leb}
+use lib.ListN.{getD, set, length, drop, length-set, length-drop}
 use lib.Seq.{getD-drop, sets}
 use borrow.Author.Tests.{ne-eqb, le-leb, lt-leb}
-use Rattle.laws.specs.Tests.{both, any, all}
+use Rattle.laws.specs.Tests.{all}
 use Rattle.laws.proofs.Cases.{cases, bool, true-false, lt-or}
 use Rattle.laws.proofs.Tests.{both-yes, any-no, all-of}
 use Rattle.text.specs.Text.{digit, is-digit, value, digits, number-on, word}

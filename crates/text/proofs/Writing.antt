@@ -12,16 +12,15 @@ use borrow.Author.Tests.{lt-ltb, le-ltb}
 use Rattle.laws.specs.Tests.{either}
 use Rattle.laws.specs.Lists.{filled}
 use Rattle.laws.proofs.Tests.{either-first, either-second, either-no}
-use Rattle.network.specs.Network.{network}
 use Rattle.network.specs.Numbers.{refused, done, oversize, odd}
 use Rattle.network.specs.declared.Answer.{Answer}
 use Rattle.network.proofs.Checks.{sized, even}
 use Rattle.network.proofs.Sifting.{refuse-2, refuse-3, refuse-rest}
-use Rattle.search.specs.Orient.{Explored, unsearched, searched}
+use Rattle.search.specs.Orient.{Explored, unsearched}
 use Rattle.search.specs.declared.Search.{Search}
 use Rattle.text.specs.Text.{room, text-of}
 use Rattle.text.specs.Calls.{Write}
-use Rattle.text.specs.Inside.{Roomy, Writable}
+use Rattle.text.specs.Inside.{Writable}
 use Rattle.text.proofs.Accepted.{Kept, Gave}
 
 module _ (n : ℕ) (ends : List ℕ) (two : Bool) (is-two : two ≡ oversize n (length ends)) where

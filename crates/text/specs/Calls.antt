@@ -1,5 +1,5 @@
 -- What read and write say. (docs/RULES.md, "Read" and "Write".)
-use mathlib.Core.Bool.{Bool, true, false}
+use mathlib.Core.Bool.{true, false}
 use mathlib.Core.List.{List}
 use mathlib.Core.Path.{_≡_}
 use Prim.Native.Nat.{ℕ, _*_, _/_}

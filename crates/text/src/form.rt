@@ -1,6 +1,6 @@
 // Whether a text has the form: the length that its first frame asks, and every place as it should be.
 ghost use mathlib.Core.Path.{_≡_};
-ghost use Prim.Native.Nat.{ℕ, _+_, _*_, _≤_, _<_};
+ghost use Prim.Native.Nat.{_+_, _*_, _≤_, _<_};
 ghost use lib.ListN.{length};
 ghost use Rattle.laws.specs.Tests.{all};
 ghost use Rattle.text.specs.Text.{right, «has-form»};

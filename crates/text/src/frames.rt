@@ -1,6 +1,6 @@
 // Frames: the ends of lines taken from a text, and a network's frames put into one.
 ghost use mathlib.Core.Path.{_≡_};
-ghost use Prim.Native.Nat.{ℕ, _+_, _*_, _/_, _≤_, _<_};
+ghost use Prim.Native.Nat.{_+_, _*_, _/_, _≤_, _<_};
 ghost use lib.ListN.{length};
 ghost use lib.Seq.{sets};
 ghost use Rattle.laws.specs.Lists.{filled};

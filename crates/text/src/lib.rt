@@ -5,7 +5,6 @@ mod digits;
 mod form;
 mod frames;
 
-ghost use mathlib.Core.Path.{_≡_};
 ghost use Rattle.text.specs.Calls.{Read, Write};
 use network::Answer;
 

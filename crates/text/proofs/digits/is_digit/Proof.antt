@@ -1,6 +1,5 @@
 -- `is_digit` computes its definition, by the ranges of the digits' bytes.
 use Rattle.text.proofs.Words.{below-digits, decimal, between-digits, letter}
-use borrow.Author.Needs.{needs}
 use Rattle.text.proofs.digits.is_digit.Statement.{statement}
 use Rattle.text.proofs.digits.is_digit.Tie as tie
 

@@ -1,6 +1,6 @@
 -- `value` computes its definition, by the ranges of the digits' bytes.
 use native.Mathlib.Omega.{arith}
-use Rattle.text.proofs.Words.{Ranged, digit-ranged, decimal-value, letter-value}
+use Rattle.text.proofs.Words.{digit-ranged, decimal-value, letter-value}
 use borrow.Author.Needs.{needs}
 use Rattle.text.proofs.digits.value.Statement.{statement}
 use Rattle.text.proofs.digits.value.Tie as tie

@@ -1,6 +1,5 @@
 -- `are_frames` computes its definition: the places of the frames passed so far are right.
 use Prim.Native.Nat.{_+_, _-_}
-use native.Mathlib.Omega.{arith}
 use borrow.Author.Tests.{not-true, not-false}
 use Rattle.text.proofs.Places.{Rights, rights-start, rights-more, rights-no, rights-all}
 use borrow.Author.Needs.{needs}

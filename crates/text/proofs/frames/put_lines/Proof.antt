@@ -1,6 +1,5 @@
 -- `put_lines` puts the frames of the lines one after the other.
 use Prim.Native.Nat.{_-_}
-use lib.ListN.{length}
 use Rattle.text.proofs.Filling.{Put, put-start, put-room, put-more, put-all}
 use borrow.Author.Needs.{needs}
 use Rattle.text.proofs.frames.put_lines.Statement.{statement}
