@@ -4,8 +4,9 @@ use mathlib.Core.Path.{_≡_, sym, _∙_}
 use Prim.Native.Nat.{ℕ, _+_, _%_, _≤_}
 use native.Mathlib.Omega.{arith}
 use Rattle.tree.specs.Tree.{Tree}
-use Rattle.tree.proofs.Tree.{BackLine}
-use Rattle.fork.specs.Fork.{right, Legal, Aligned, Constraint, same-side, other-side}
+use Rattle.tree.specs.Words.{BackLine}
+use Rattle.fork.specs.Fork.{Legal, Aligned, Constraint, same-side, other-side}
+use Rattle.side.specs.Sides.{right}
 use Rattle.fork.proofs.Rule.{legal-same, legal-different, legal-by}
 
 module _ (S : Tree) where

@@ -15,10 +15,12 @@ use Rattle.laws.proofs.Lists.{All, all-keep, all-kept, all-map, all-both, all-m
 use Rattle.laws.proofs.Occurring.{many-keep-yes}
 use Rattle.tree.specs.Tree.{Tree}
 use Rattle.tree.specs.Returns.{end, low}
-use Rattle.tree.proofs.Tree.{Line, TreeLine, BackLine, Searched}
+use Rattle.tree.specs.Words.{Line, TreeLine, BackLine}
+use Rattle.tree.proofs.Searched.{Searched}
 use Rattle.tree.proofs.Returns.{return-yes, return-of, low-has, return-self, return-back}
 use Rattle.fork.specs.Ends.{Lowest, high, top, bottom}
-use Rattle.fork.specs.Fork.{right, Fork, Group, Aligned, Same, Different, Level, forkb}
+use Rattle.fork.specs.Fork.{Fork, Group, Aligned, Same, Different, Level, forkb}
+use Rattle.side.specs.Sides.{right}
 use Rattle.fork.specs.Link.{rival, Held, heldb, Overlap, overlapb, Link, to-top, tops, to-bottom, turned, Obeys}
 use Rattle.fork.proofs.Ends.{high-most, high-has, high-some, top-is, bottom-is, top-back}
 use Rattle.fork.proofs.Rule.{fork-yes, fork-of, fork-turned, legal-same, legal-different}

@@ -6,15 +6,9 @@ use lib.Dec.{eqb, ltb, leb}
 use Rattle.laws.specs.Tests.{both, either, all, any}
 use Rattle.tree.specs.Tree.{Tree}
 use Rattle.tree.specs.Returns.{end, backb, returnb, low}
-use Rattle.tree.proofs.Tree.{Line, TreeLine, BackLine, Return}
+use Rattle.tree.specs.Words.{Line, TreeLine, BackLine, Return}
+use Rattle.side.specs.Sides.{right}
 use Rattle.fork.specs.Ends.{Lowest, lowestb}
-
--- The two sides.
-abbrev pub left : ℕ
-left = 0
-
-abbrev pub right : ℕ
-right = 1
 
 -- A fork: two different lines that leave one vertex.
 pub record Fork (S : Tree) (f g : ℕ) : Type 0 where

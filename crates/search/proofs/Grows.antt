@@ -17,7 +17,8 @@ use Rattle.network.specs.Network.{Network, first, second, touches, other, Conne
 use Rattle.network.specs.Inside.{Fit}
 use Rattle.network.proofs.Lines.{touches-first, touches-of, other-first, other-second, other-in}
 use Rattle.tree.specs.Tree.{back, higher, lower, climb}
-use Rattle.tree.proofs.Tree.{Line, Searched}
+use Rattle.tree.specs.Words.{Line}
+use Rattle.tree.proofs.Searched.{Searched}
 use Rattle.tree.proofs.Grown.{Grown, searched}
 use Rattle.search.specs.Machine.{State, finished, tree-in}
 use Rattle.search.specs.Orient.{back-lines}

@@ -17,7 +17,8 @@ use Rattle.laws.proofs.Counting.{count-all, count-le}
 use Rattle.network.specs.Network.{first, second}
 use Rattle.tree.specs.Tree.{Tree, higher, lower, climb, aboveb, tree-of}
 use Rattle.tree.specs.Returns.{end}
-use Rattle.tree.proofs.Tree.{Line, TreeLine, BackLine, Above, Searched}
+use Rattle.tree.specs.Words.{Line, TreeLine, BackLine, Above}
+use Rattle.tree.proofs.Searched.{Searched}
 
 -- What the tables obey: a tree line leads one up, to the vertex that it found; a back line leads down, to a vertex on its path to the root.
 pub record Grown (n m : ℕ) (ends kind height parent : List ℕ) : Type 0 where

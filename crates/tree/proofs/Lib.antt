@@ -1,3 +1,3 @@
-pub mod Tree
+pub mod Searched
 pub mod Grown
 pub mod Returns

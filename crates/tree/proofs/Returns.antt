@@ -16,7 +16,8 @@ use Rattle.laws.proofs.Lists.{All, all-keep, all-kept, all-map, all-both, all-m
 use Rattle.laws.proofs.Occurring.{many-keep-yes}
 use Rattle.tree.specs.Tree.{Tree}
 use Rattle.tree.specs.Returns.{end, returnb, returns, low}
-use Rattle.tree.proofs.Tree.{Line, TreeLine, BackLine, Above, Searched, Leaves, Return}
+use Rattle.tree.specs.Words.{Line, TreeLine, BackLine, Above, Leaves, Return}
+use Rattle.tree.proofs.Searched.{Searched}
 
 -- The tests
 

@@ -1,27 +1,10 @@
--- The words of a tree as propositions, and the laws of a finished search that everything above stands on.
-use mathlib.Core.Bool.{Bool, true, false}
-use mathlib.Core.Logic.{_⊎_}
+-- What holds of every finished search: the laws that everything above stands on.
 use mathlib.Core.Path.{_≡_}
 use Prim.Native.Nat.{ℕ, suc, _≤_, _<_}
 use Rattle.tree.specs.Tree.{Tree}
 use Rattle.tree.specs.Returns.{end}
+use Rattle.tree.specs.Words.{Line, TreeLine, BackLine, Above}
 
--- k is a line in service, a tree line, a back line.
-pub record Line (S : Tree) (k : ℕ) : Type 0 where
-  pub below : k < S .lines
-  pub yes : S .live k ≡ true
-
-abbrev pub TreeLine : Tree → ℕ → Type 0
-TreeLine S t = Line S t × (S .tree t ≡ true)
-
-abbrev pub BackLine : Tree → ℕ → Type 0
-BackLine S b = Line S b × (S .tree b ≡ false)
-
--- x stands at or above u
-abbrev pub Above : Tree → ℕ → ℕ → Type 0
-Above S u x = S .above u x ≡ true
-
--- What holds of every finished search
 pub record Searched (S : Tree) : Type 0 where
   pub source-in : (l : ℕ) → Line S l → S .source l < S .vertices
   pub target-in : (l : ℕ) → Line S l → S .target l < S .vertices
@@ -42,14 +25,3 @@ pub record Searched (S : Tree) : Type 0 where
   pub above-between : (u w x : ℕ) → Above S u x → Above S w x → S .height u ≤ S .height w → Above S u w
   -- one tree line leads from a vertex towards any above it
   pub stem : (v x : ℕ) → x < S .vertices → Above S v x → (v ≡ x → ⊥) → (t : ℕ) × TreeLine S t × (S .source t ≡ v) × Above S (S .target t) x
-
--- f leaves v
-pub record Leaves (S : Tree) (v f : ℕ) : Type 0 where
-  pub line : Line S f
-  pub from : S .source f ≡ v
-
--- b is a return of f
-pub record Return (S : Tree) (f b : ℕ) : Type 0 where
-  pub is-back : BackLine S b
-  pub via : (b ≡ f) ⊎ ((S .tree f ≡ true) × Above S (S .target f) (S .source b))
-  pub below : end S b < S .height (S .source f)

@@ -1,0 +1,12 @@
+pub mod Order
+pub mod Listing
+pub mod Groups
+pub mod Choosing
+pub mod Filling
+pub mod Taking
+pub mod Answers
+pub mod Rings
+pub mod Flooding
+pub mod Showing
+pub mod Steps
+pub mod Reading

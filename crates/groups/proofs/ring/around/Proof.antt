@@ -1,0 +1,14 @@
+-- `around` computes its definition.
+use Rattle.groups.proofs.Reading.{around-low, around-high}
+use borrow.Author.Needs.{needs}
+use Rattle.groups.proofs.ring.around.Statement.{statement}
+use Rattle.groups.proofs.ring.around.Tie as tie
+
+returns : tie.Need-returns
+returns c = search around-low
+
+returns-2 : tie.Need-returns-2
+returns-2 c = search around-high
+
+pub around-spec : {M : Type 1} → statement M
+around-spec = tie.close (tie.spec returns returns-2)
