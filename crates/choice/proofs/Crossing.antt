@@ -226,10 +226,13 @@ module _ {n m : ℕ} {ends kinds heights parents : List ℕ} (known : Known n m 
             room = w .room;
             groups = w .groups;
             onward = w .onward;
-            so-far = (omega arith, record {
-              tops = λ f c p l x y. w .so-far .1 .tops f c (not-b c p (x .return .is-back)) l x y;
-              bottoms = λ f c p l x y. w .so-far .1 .bottoms f c (not-b c p (x .return .is-back)) l x y;
-            });
+            so-far = (
+              omega arith,
+              record {
+                tops = λ f c p l x y. w .so-far .1 .tops f c (not-b c p (x .return .is-back)) l x y;
+                bottoms = λ f c p l x y. w .so-far .1 .bottoms f c (not-b c p (x .return .is-back)) l x y;
+              },
+            );
           }
         where
           not-b : (c : ℕ) → c < b + 1 → BackLine U c → c < b

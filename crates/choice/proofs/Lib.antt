@@ -3,3 +3,6 @@ pub mod Proper
 pub mod Trying
 pub mod Walking
 pub mod Crossing
+pub mod Settling
+pub mod Answering
+pub mod Stepping

@@ -39,26 +39,32 @@ module _ (lines f b : ℕ) (stops lows rivals tops bottoms leader parity from to
 
   pub shelter-top : (lines ≤ 2048) × (f < lines) × Tieable lines b (getD tops f 0) leader parity from to
   shelter-top =
-      let i = top-is S f b (s .return) .return .is-back .0 .below in
-      (s .room .few, f-in, record {
-        room = s .room;
-        first = b-in;
-        second = omega (arith, i, s .ranked .each-top .each f (s .tree-line .0 .below), s .same-lines);
-        leaders = λ x h. omega (arith, s .groups .low x (omega (arith, s .same-lines)));
-      })
+      let i = top-is S f b (s .return) .return .is-back .0 .below in (
+        s .room .few,
+        f-in,
+        record {
+          room = s .room;
+          first = b-in;
+          second = omega (arith, i, s .ranked .each-top .each f (s .tree-line .0 .below), s .same-lines);
+          leaders = λ x h. omega (arith, s .groups .low x (omega (arith, s .same-lines)));
+        },
+      )
 
   pub shelter-bottom : (leader′ parity′ from′ to′ : List ℕ) (q : Tie) → TiedTop lines f b stops rivals tops (tables leader parity from to) (tables leader′ parity′ from′ to′) q → q ≡ Holds
       → length leader′ ≡ length leader → length parity′ ≡ length parity → length from′ ≡ length from → length to′ ≡ length to
       → (lines ≤ 2048) × (f < lines) × Tieable lines b (getD bottoms f 0) leader′ parity′ from′ to′
   shelter-bottom leader′ parity′ from′ to′ q t e l p u v =
       let i = bottom-is S f b (s .return) .return .is-back .0 .below in
-      let r = s .room in
-      (s .room .few, f-in, record {
-        room = record { few = r .few; leaders = omega (arith, r .leaders); parities = omega (arith, r .parities); froms = omega (arith, r .froms); tos = omega (arith, r .tos) };
-        first = b-in;
-        second = omega (arith, i, s .ranked .each-bottom .each f (s .tree-line .0 .below), s .same-lines);
-        leaders = λ x h. omega (arith, held (rw e at (t S (s .same-lines) (s .tree-line) (s .return) (s .ranked .each-stop) (s .ranked .each-rival) (s .ranked .each-top) (s .groups))) x h);
-      })
+      let r = s .room in (
+        s .room .few,
+        f-in,
+        record {
+          room = record { few = r .few; leaders = omega (arith, r .leaders); parities = omega (arith, r .parities); froms = omega (arith, r .froms); tos = omega (arith, r .tos) };
+          first = b-in;
+          second = omega (arith, i, s .ranked .each-bottom .each f (s .tree-line .0 .below), s .same-lines);
+          leaders = λ x h. omega (arith, held (rw e at (t S (s .same-lines) (s .tree-line) (s .return) (s .ranked .each-stop) (s .ranked .each-rival) (s .ranked .each-top) (s .groups))) x h);
+        },
+      )
     where
       held : {A : Type 0} → Outcome S (tables leader parity from to) (tables leader′ parity′ from′ to′) A Holds → (x : ℕ) → x < lines → getD leader′ x 0 ≤ x
       held (obeyed g o a) x h = g .low x (omega (arith, s .same-lines))

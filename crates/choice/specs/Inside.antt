@@ -1,4 +1,5 @@
 -- What functions inside ask of each other. A reader of the calls' statements need not believe any of it.
+use mathlib.Core.Bool.{Bool, true, false}
 use mathlib.Core.List.{List}
 use mathlib.Core.Logic.{_⊎_}
 use mathlib.Core.Path.{_≡_}
@@ -15,6 +16,7 @@ use Rattle.groups.specs.Constraints.{Constraints, Even}
 use Rattle.groups.specs.Groups.{Tables, tables, Grouped}
 use Rattle.groups.specs.Calls.{Room, joined}
 use Rattle.groups.specs.declared.Joining.the-variants.{Agrees, Conflicts, Joins}
+use Rattle.choice.specs.declared.Groups.{Groups}
 use Rattle.choice.specs.declared.Tie.{Tie}
 use Rattle.choice.specs.declared.Tie.the-variants.{Holds, Tears}
 
@@ -151,3 +153,18 @@ pub record Forking (S : Tree) (f : ℕ) (leader parity from to : List ℕ) : Typ
 pub record Begun (S : Tree) (leader parity from to : List ℕ) : Type 0 where
   pub room : Room (S .lines) leader parity from to
   pub groups : Together S (tables leader parity from to)
+
+-- All links are taken in, or one can't be.
+pub data Sorted (S : Tree) (t : Tables) : Tie → Type 0 where
+  all-kept : Together S t → ((b d k : ℕ) → Link S b d k → Closed t b d k) → Sorted S t Holds
+  one-torn : {b d k : ℕ} → Together S t → Unkept S t b d k → Sorted S t (Tears b d k)
+
+-- The groups of a tree's back lines.
+pub record Grouping (S : Tree) (r : Groups) : Type 0 where
+  pub room : Room (S .lines) (r .leader) (r .parity) (r .from) (r .to)
+  pub sorted : Sorted S (tables (r .leader) (r .parity) (r .from) (r .to)) (r .tie)
+
+-- r says whether P holds.
+pub record Decides (P : Type 0) (r : Bool) : Type 0 where
+  pub holds : r ≡ true → P
+  pub fails : r ≡ false → P → ⊥

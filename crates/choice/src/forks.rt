@@ -6,7 +6,6 @@ ghost use Rattle.tree.specs.Tree.{«tree-of»};
 ghost use Rattle.fork.specs.Inside.{Known};
 ghost use Rattle.groups.specs.Groups.{tables};
 ghost use Rattle.choice.specs.Inside.{Outcome, Crossed, Forking, ForksTied, Pairing, TiedTops, Begun};
-
 use crate::Tie;
 use crate::ties::tie;
 use network::wide;
@@ -42,7 +41,16 @@ fn tie_pair(
     if highs[g] <= lows[f] {
         return Tie::Holds;
     }
-    tie(lines, wide(tops[f]), wide(tops[g]), 1, leader, parity, from, to)
+    tie(
+        lines,
+        wide(tops[f]),
+        wide(tops[g]),
+        1,
+        leader,
+        parity,
+        from,
+        to,
+    )
 }
 
 // Ties tree line f and every line that leaves where it leaves and overlaps it.
@@ -74,7 +82,19 @@ fn tie_fork(
 {
     let mut g = 0;
     while g < lines {
-        match tie_pair(lines, f, g, sources, lows, highs, tops, leader, parity, from, to) {
+        match tie_pair(
+            lines,
+            f,
+            g,
+            sources,
+            lows,
+            highs,
+            tops,
+            leader,
+            parity,
+            from,
+            to,
+        ) {
             Tie::Holds => {}
             Tie::Tears(x, y, z) => return Tie::Tears(x, y, z),
         }
@@ -113,7 +133,23 @@ pub fn tie_forks(
     while f < lines {
         let after = f + 1;
         if kinds[f] == 0 {
-            match tie_fork(vertices, lines, f, ends, kinds, heights, parents, sources, lows, highs, tops, leader, parity, from, to) {
+            match tie_fork(
+                vertices,
+                lines,
+                f,
+                ends,
+                kinds,
+                heights,
+                parents,
+                sources,
+                lows,
+                highs,
+                tops,
+                leader,
+                parity,
+                from,
+                to,
+            ) {
                 Tie::Holds => {}
                 Tie::Tears(x, y, z) => return Tie::Tears(x, y, z),
             }

@@ -7,7 +7,6 @@ ghost use Prim.Native.Nat.{ℕ, _≤_, _<_};
 ghost use lib.ListN.{length, getD};
 ghost use Rattle.groups.specs.Groups.{tables};
 ghost use Rattle.choice.specs.Inside.{Tieable, Tried, TiedTop, TiedBottom, TiedTops};
-
 use crate::Tie;
 use groups::Joining;
 use network::wide;

@@ -11,7 +11,6 @@ ghost use Rattle.fork.specs.Inside.{Known, Table, Rivals, source};
 ghost use Rattle.groups.specs.Groups.{tables};
 ghost use Rattle.groups.specs.Calls.{Room};
 ghost use Rattle.choice.specs.Inside.{Together, ReturnsTied, Outcome, Sheltered, TiedReturn, Prepared, Started, Begun};
-
 use crate::Tie;
 use crate::ties::tie_bottom;
 use crate::ties::tie_top;
@@ -77,7 +76,20 @@ fn tie_way(
     let mut v = wide(sources[b]);
     while stop + 1 < heights[v] {
         let f = wide(parents[v]);
-        match tie_return(lines, f, b, stops, lows, rivals, tops, bottoms, leader, parity, from, to) {
+        match tie_return(
+            lines,
+            f,
+            b,
+            stops,
+            lows,
+            rivals,
+            tops,
+            bottoms,
+            leader,
+            parity,
+            from,
+            to,
+        ) {
             Tie::Holds => {}
             Tie::Tears(x, y, z) => return Tie::Tears(x, y, z),
         }
@@ -119,7 +131,25 @@ pub fn tie_ways(
     while b < lines {
         let after = b + 1;
         if kinds[b] == 1 {
-            match tie_way(vertices, lines, b, ends, kinds, heights, parents, sources, stops, lows, rivals, tops, bottoms, leader, parity, from, to) {
+            match tie_way(
+                vertices,
+                lines,
+                b,
+                ends,
+                kinds,
+                heights,
+                parents,
+                sources,
+                stops,
+                lows,
+                rivals,
+                tops,
+                bottoms,
+                leader,
+                parity,
+                from,
+                to,
+            ) {
                 Tie::Holds => {}
                 Tie::Tears(x, y, z) => return Tie::Tears(x, y, z),
             }
