@@ -33,6 +33,7 @@ const USAGE: &str = "usage: second [OPTION...] -- DRIVER [WORD...]
 options: --calls NAMES        the calls to compare, with commas between (all six)
          --seed NUMBER        another seed than 1
          --size NUMBER        so many times as many networks of each family
+         --every NUMBER       of the networks of each family the first and every NUMBERth after it
          --only FAMILY:NUMBER the calls on this one network";
 
 fn main() {
@@ -58,6 +59,7 @@ fn plan(words: &[String]) -> Option<Plan> {
         calls: Call::ALL.to_vec(),
         seed: 1,
         size: 1,
+        every: 1,
         only: None,
     };
     if plan.command.is_empty() || end % 2 == 1 {
@@ -74,6 +76,7 @@ fn plan(words: &[String]) -> Option<Plan> {
             }
             "--seed" => plan.seed = value.parse().ok()?,
             "--size" => plan.size = value.parse().ok()?,
+            "--every" => plan.every = value.parse().ok().filter(|&every| every > 0)?,
             "--only" => {
                 let (family, number) = value.split_once(':')?;
                 plan.only = Some((family.to_string(), number.parse().ok()?));

@@ -14,6 +14,7 @@ pub struct Plan {
     pub calls: Vec<Call>,
     pub seed: u64,
     pub size: usize,
+    pub every: usize,
     pub only: Option<(String, usize)>,
 }
 
@@ -32,10 +33,11 @@ const MOST_SHOWN: usize = 5;
 /// The exit status: 0 where all is as expected, 1 on a difference, 2 where nothing could be compared.
 pub fn run(plan: &Plan) -> i32 {
     println!(
-        "calls: {}; seed {}, size {}",
+        "calls: {}; seed {}, size {}, every {}",
         call_names(plan),
         plan.seed,
-        plan.size
+        plan.size,
+        plan.every
     );
     let (sender, receiver) = sync_channel(4);
     let (compared, differences) = thread::scope(|scope| {
@@ -93,12 +95,13 @@ fn make_all(plan: &Plan, sender: &SyncSender<Vec<Case>>) {
     let _ = sender.send(batch);
 }
 
-fn numbers(plan: &Plan, family: &Family) -> std::ops::Range<usize> {
-    match &plan.only {
+fn numbers(plan: &Plan, family: &Family) -> std::iter::StepBy<std::ops::Range<usize>> {
+    let all = match &plan.only {
         Some((name, number)) if name == family.name => *number..number + 1,
         Some(_) => 0..0,
         None => 0..family.count * plan.size,
-    }
+    };
+    all.step_by(plan.every)
 }
 
 fn compare_all(plan: &Plan, batches: Receiver<Vec<Case>>) -> (usize, usize) {

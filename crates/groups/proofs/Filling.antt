@@ -3,7 +3,7 @@ use mathlib.Core.Bool.{Bool, true, false, not}
 use mathlib.Core.List.{List}
 use mathlib.Core.Logic.{inl, inr, _≢_}
 use mathlib.Core.Path.{_≡_, refl, sym, _∙_, ap}
-use Prim.Native.Nat.{ℕ, _+_, _%_, _≤_, _<_}
+use Prim.Native.Nat.{ℕ, zero, suc, _+_, _-_, _%_, _≤_, _<_}
 use native.Mathlib.Numerals.{add-one}
 use native.Mathlib.Omega.{arith}
 use lib.Dec.{eqb}
@@ -13,6 +13,8 @@ use borrow.Author.Tests.{eq-eqb, ne-eqb, lt-leb, le-leb, not-true, not-false}
 use Rattle.laws.specs.Tests.{both, all}
 use Rattle.laws.proofs.Cases.{cases, eq-or, bool, true-false}
 use Rattle.laws.proofs.Tests.{all-yes, all-of}
+use Rattle.side.specs.Sides.{opposite}
+use Rattle.side.proofs.Opposite.{opposite-left, opposite-other}
 use Rattle.groups.specs.Order.{at}
 use Rattle.groups.specs.Groups.{Put, Relabelled, Recoloured, fitb, fitsb}
 use Rattle.groups.specs.Calls.{Past, Numbered, Level, Levelled, Moved, Flipped, Copied, Sought, Rewritten, Advanced, Stuck, Reading, Wide}
@@ -225,3 +227,11 @@ module _ (lines : ℕ) (leader parity choice : List ℕ) where
   pub fitting-all : (b : ℕ) → Fitting lines b leader parity choice → lines ≤ b → true ≡ fitsb lines (at leader) (at parity) (at choice)
   unfolding fitsb
   fitting-all b s h = sym (all-yes _ lines (λ j o. s .fit j (omega arith)))
+
+-- The opposite side is what is left of 1.
+opposite-rest : (x : ℕ) → opposite x ≡ 1 - x
+opposite-rest zero = sym (opposite-left zero refl)
+opposite-rest (suc x) = let none : 0 ≡ 1 - suc x = omega arith in sym (opposite-other (suc x) (λ e. omega arith)) ∙ none
+
+pub turned-over : (l p x r z : ℕ) → z ≡ opposite x → r ≤ l → l ≤ r → Recoloured l p x r z
+turned-over l p x r z e h k = record { keep = λ o. absurd (omega arith); turn = λ _. e ∙ opposite-rest x; anew = λ o. absurd (omega arith) }

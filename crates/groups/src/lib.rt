@@ -11,6 +11,7 @@ ghost use lib.ListN.{length};
 ghost use Rattle.groups.specs.Order.{at};
 ghost use Rattle.groups.specs.Groups.{tables, Relabelled, Merged};
 ghost use Rattle.groups.specs.Calls.{Wide, Room, Numbered, Level, Levelled, Started, Moved, Flipped, Joinable, Mergeable, joined};
+use side::Side;
 
 // What taking in a constraint came to.
 pub enum Joining {
@@ -104,9 +105,9 @@ fn alone(kind: u8) -> u8
     ensures { λ r. ⌜ Level kind r ⌝ }
 {
     if kind == 1 {
-        return 0;
+        return Side::LEFT;
     }
-    2
+    Side::TREE
 }
 
 // Writes the parities of lines by themselves.
