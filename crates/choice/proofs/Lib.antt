@@ -6,3 +6,7 @@ pub mod Crossing
 pub mod Settling
 pub mod Answering
 pub mod Stepping
+pub mod Tight
+pub mod Granted
+pub mod Outcomes
+pub mod Refuted
