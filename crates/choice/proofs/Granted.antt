@@ -2,8 +2,8 @@
 use mathlib.Core.Bool.{Bool, true, false}
 use mathlib.Core.List.{List}
 use mathlib.Core.Logic.{_⊎_, inl, inr}
-use mathlib.Core.Path.{_≡_, refl, sym, ap, _∙_}
-use Prim.Native.Nat.{ℕ, _/_, _≤_, _<_}
+use mathlib.Core.Path.{_≡_, sym, ap, _∙_}
+use Prim.Native.Nat.{ℕ, _/_, _≤_}
 use lib.Dec.{eqb}
 use lib.ListN.{length}
 use borrow.Author.Tests.{eq-eqb, le-ltb, eqb-true}
@@ -16,7 +16,6 @@ use Rattle.network.specs.Inside.{Fit}
 use Rattle.network.proofs.Sifting.{fit-when}
 use Rattle.tree.specs.Tree.{Tree}
 use Rattle.tree.specs.Returns.{backb}
-use Rattle.tree.specs.Words.{BackLine}
 use Rattle.search.specs.Machine.{finished}
 use Rattle.search.specs.Inside.{everyone}
 use Rattle.search.proofs.Reached.{connected-of}
@@ -44,10 +43,16 @@ module _ (n : ℕ) (ends : List ℕ) where
     module _ (short : Bool) (enough : short ≡ false) (R : ℕ → Type 0) (G : Type 0) where
       pub grant : G → Checked n ends short R G
       grant g =
-          inr (λ t. true-false t (a .sized),
-          inr (λ t. true-false t (either-no (a .paired-ends) enough),
-          inr (λ t. true-false t (a .inside),
-          inr (λ t. true-false t (a .single), inl (a .connected, g)))))
+          inr (
+            λ t. true-false t (a .sized),
+            inr (
+              λ t. true-false t (either-no (a .paired-ends) enough),
+              inr (
+                λ t. true-false t (a .inside),
+                inr (λ t. true-false t (a .single), inl (a .connected, g)),
+              ),
+            ),
+          )
 
       pub granted : Checked n ends short R G → G
       granted (inl (t, x)) = true-false t (a .sized)
@@ -97,3 +102,10 @@ proper-agree S c d a p =
       no-side = λ k h f. sym (a k h) ∙ p .no-side k h f;
       aligned = aligned-agree S c d (λ b l. a b (l .0 .below)) (p .aligned);
     }
+
+-- by a tree that was computed
+pub proper-by : {S T : Tree} → S ≡ T → (c : ℕ → ℕ) → properb T c ≡ true → Proper S c
+proper-by {S} e c t = proper-of S c (ap (λ (U : Tree). properb U c) e ∙ t)
+
+pub improper-by : {S T : Tree} → S ≡ T → (c : ℕ → ℕ) → properb T c ≡ false → Proper S c → ⊥
+improper-by {S} e c f p = true-false (proper-yes S c p) (ap (λ (U : Tree). properb U c) e ∙ f)

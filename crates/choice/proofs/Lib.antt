@@ -9,4 +9,5 @@ pub mod Stepping
 pub mod Tight
 pub mod Granted
 pub mod Outcomes
-pub mod Refuted
+pub mod RefutedFirst
+pub mod RefutedNext

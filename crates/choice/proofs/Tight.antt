@@ -2,16 +2,13 @@
 -- are, or both show a ring. There is one first and one next choice, and the bytes past the lines are kept.
 use mathlib.Core.List.{List}
 use mathlib.Core.Logic.{_⊎_, inl, inr}
-use mathlib.Core.Path.{_≡_, refl, sym, ap, _∙_}
-use Prim.Native.Nat.{ℕ, _/_, _≤_, _<_}
+use mathlib.Core.Path.{_≡_, sym, ap, _∙_}
+use Prim.Native.Nat.{ℕ}
 use native.Mathlib.Omega.{arith}
-use lib.ListN.{length}
 use lib.Seq.{ext-getD}
-use Rattle.laws.specs.Checks.{check}
 use Rattle.laws.proofs.Cases.{cases, lt-or}
 use Rattle.laws.proofs.Checks.{check-once}
 use Rattle.network.specs.Network.{Network, network}
-use Rattle.network.specs.Numbers.{refused, done, Checked}
 use Rattle.network.specs.declared.Answer.{Answer}
 use Rattle.network.proofs.Sifting.{checked-once}
 use Rattle.search.specs.Machine.{tree-in}
@@ -19,7 +16,7 @@ use Rattle.fork.specs.Fork.{Constraint}
 use Rattle.groups.specs.Order.{at, Agree, First, Next}
 use Rattle.groups.specs.Constraints.{Ring}
 use Rattle.groups.proofs.Order.{first-once, next-once}
-use Rattle.choice.specs.Choice.{Drawable, Proper, Outdone}
+use Rattle.choice.specs.Choice.{Proper}
 use Rattle.choice.specs.Calls.{Kept, cramped-first, Untouched, Chosen, Ringed, FirstChoice, cramped-next, Unmoved, Stepped, NextChoice}
 
 -- two buffers that were changed in their first n places, and are the same there
@@ -36,8 +33,7 @@ module _ (n : ℕ) (ends choice : List ℕ) (r r′ : Answer) (c c′ : List ℕ
 
   stepped : Stepped (network n ends) choice r c → Stepped (network n ends) choice r′ c′ → (r ≡ r′) × (c ≡ c′)
   stepped a b =
-      let net = network n ends in
-      (
+      let net = network n ends in (
         a .answers ∙ sym (b .answers),
         kept-same (net .lines) choice c c′ (a .rest) (b .rest) (next-once (net .lines) (Proper (tree-in net)) (at choice) (at c) (at c′) (a .next) (b .next)),
       )
