@@ -11,3 +11,4 @@ pub mod Granted
 pub mod Outcomes
 pub mod RefutedFirst
 pub mod RefutedNext
+pub mod Enumerating
