@@ -2,8 +2,9 @@
 use mathlib.Core.Bool.{Bool, true, false}
 use mathlib.Core.List.{List}
 use mathlib.Core.Logic.{_⊎_, inl, inr}
-use mathlib.Core.Path.{_≡_, sym, ap, _∙_}
-use Prim.Native.Nat.{ℕ, _/_, _≤_}
+use mathlib.Core.Path.{_≡_, refl, sym, ap, _∙_}
+use native.Mathlib.Omega.{arith}
+use Prim.Native.Nat.{ℕ, _/_, _≤_, _<_}
 use lib.Dec.{eqb}
 use lib.ListN.{length}
 use borrow.Author.Tests.{eq-eqb, le-ltb, eqb-true}
@@ -61,6 +62,19 @@ module _ (n : ℕ) (ends : List ℕ) where
       granted (inr (_, inr (_, inr (_, inl (t, x))))) = true-false t (a .single)
       granted (inr (_, inr (_, inr (_, inr (_, inl (c, g)))))) = g
       granted (inr (_, inr (_, inr (_, inr (_, inr (c, x)))))) = absurd (c (a .connected))
+
+  -- a result that is no refusal had room, and is granted
+  false-when : (b : Bool) → (b ≡ true → ⊥) → b ≡ false
+  false-when true d = absurd (d refl)
+  false-when false d = refl
+
+  pub passed : {short : Bool} {R : ℕ → Type 0} {G : Type 0} → ((k : ℕ) → 0 < k → R k → ⊥) → Checked n ends short R G → (short ≡ false) × G
+  passed f (inl (t, x)) = absurd (f 2 (omega arith) x)
+  passed f (inr (_, inl (t, x))) = absurd (f 3 (omega arith) x)
+  passed f (inr (_, inr (_, inl (t, x)))) = absurd (f 4 (omega arith) x)
+  passed f (inr (_, inr (_, inr (_, inl (t, x))))) = absurd (f 5 (omega arith) x)
+  passed f (inr (_, inr (three, inr (_, inr (_, inl (c, g)))))) = (false-when _ (λ t. three (either-second _ _ t)), g)
+  passed f (inr (_, inr (_, inr (_, inr (_, inr (c, x)))))) = absurd (f 6 (omega arith) x)
 
   pub room-first : (choice lines kinds : List ℕ) → length ends / 2 ≤ length choice → length ends / 2 ≤ length lines → length ends / 2 ≤ length kinds → cramped-first ends choice lines kinds ≡ false
   unfolding cramped-first

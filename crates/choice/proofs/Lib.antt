@@ -12,3 +12,4 @@ pub mod Outcomes
 pub mod RefutedFirst
 pub mod RefutedNext
 pub mod Enumerating
+pub mod Listed
