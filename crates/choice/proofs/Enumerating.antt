@@ -3,7 +3,7 @@
 -- (That the list rises and has no choice twice holds whatever is good: there is one first choice, and one next.)
 use mathlib.Core.Bool.{Bool, true, false, cond}
 use mathlib.Core.Logic.{_⊎_, inl, inr, _≢_}
-use mathlib.Core.Path.{_≡_, refl, sym, ap, _∙_}
+use mathlib.Core.Path.{_≡_, refl, sym, _∙_}
 use Prim.Native.Nat.{ℕ, zero, suc, _+_, _*_, _/_, _%_, _≤_, _<_}
 use native.Mathlib.Omega.{arith}
 use lib.Dec.{eqb}
@@ -196,8 +196,7 @@ module _ (n : ℕ) (Good : (ℕ → ℕ) → Type 0) (goodb : (ℕ → ℕ) → 
       last : (w : ℕ) → Greatest numbers (code c n) w → (w : ℕ) × (w < code c n) × Good (spell n w) × (code (spell n w) n ≡ w) × Next n Good (spell n w) c
       last w q =
           let y = numbers-of w (q .passes) in
-          let under = q .below in
-          (
+          let under = q .below in (
             w,
             under,
             y .0,
@@ -235,8 +234,7 @@ module _ (n : ℕ) (Good : (ℕ → ℕ) → Type 0) (goodb : (ℕ → ℕ) → 
       last : (w : ℕ) → Greatest numbers (suc (top n)) w → (k : ℕ) × (d : ℕ → ℕ) × Listed n Good k d × Last n Good d
       last w q =
           let y = numbers-of w (q .passes) in
-          let r = every (spell n w) (y .0) in
-          (
+          let r = every (spell n w) (y .0) in (
             r .0,
             spell n w,
             r .1,

@@ -13,3 +13,4 @@ pub mod RefutedFirst
 pub mod RefutedNext
 pub mod Enumerating
 pub mod Listed
+pub mod OneChoice

@@ -1,16 +1,15 @@
 -- The listing theorem for the calls: first choice, and then next choice again and again, hand back every proper choice exactly once, in rising order,
 -- and then 9. What the calls hand back is what the order of choices calls first and next, step for step; and each step of the list of choices is one
 -- that the calls' statements allow.
-use mathlib.Core.Bool.{Bool, true, false, cond}
+use mathlib.Core.Bool.{cond}
 use mathlib.Core.List.{List}
-use mathlib.Core.Logic.{_⊎_, inl, inr, _≢_}
+use mathlib.Core.Logic.{inl, inr, _≢_}
 use mathlib.Core.Path.{_≡_, refl, sym, ap, _∙_, subst}
-use Prim.Native.Nat.{ℕ, zero, suc, _+_, _/_, _≤_, _<_}
+use Prim.Native.Nat.{ℕ, zero, suc, _/_, _≤_, _<_}
 use native.Mathlib.Omega.{arith}
 use lib.ListN.{length, set, length-set, replicate, length-replicate}
 use lib.Seq.{ext-getD, getD-set-same, getD-set-other}
 use borrow.Author.Tests.{ltb-false}
-use Rattle.laws.specs.Tests.{either}
 use Rattle.laws.specs.Checks.{check}
 use Rattle.laws.proofs.Cases.{cases, bool, lt-or, eq-or}
 use Rattle.laws.proofs.Tests.{either-neither}
@@ -27,7 +26,7 @@ use Rattle.side.specs.Sides.{none}
 use Rattle.fork.proofs.Rule.{back-of, back-yes}
 use Rattle.fork.proofs.Aligning.{settled, settled-aligned}
 use Rattle.fork.proofs.Choices.{aligned-agree}
-use Rattle.groups.specs.Order.{at, Agree, Before, First, Next, Last, Listed, start, more, Listing}
+use Rattle.groups.specs.Order.{at, Agree, First, Next, Last, Listed, start, more, Listing}
 use Rattle.groups.proofs.Order.{agree-sym, before-same, first-agree}
 use Rattle.choice.specs.Choice.{Drawable, Proper, Outdone}
 use Rattle.choice.specs.Calls.{Kept, cramped-first, Untouched, Chosen, Ringed, FirstChoice, cramped-next, Unmoved, Stepped, NextChoice}
@@ -58,7 +57,7 @@ module _ (n : ℕ) (ends : List ℕ) where
       go h (inl (_, x)) = (x .first, omega (arith, x .rest .long))
       go h (inr (_, x)) = absurd (let w : r .number ≡ 7 = ap (λ (y : Answer). y .number) (x .answers) in omega arith)
 
-  next-zero : {c d : List ℕ} {r : Answer} → NextChoice n ends c r d → r .number ≡ 0 → Next (length ends / 2) (Proper S) (at c) (at d) × (length ends / 2 ≤ length d)
+  pub next-zero : {c d : List ℕ} {r : Answer} → NextChoice n ends c r d → r .number ≡ 0 → Next (length ends / 2) (Proper S) (at c) (at d) × (length ends / 2 ≤ length d)
   unfolding cramped-next
   next-zero {c} {d} {r} f z =
       let q = passed n ends (λ j some (u : Unmoved c r d j). absurd (omega (arith, with-number (u .answers)))) f in
@@ -70,7 +69,7 @@ module _ (n : ℕ) (ends : List ℕ) where
       go h (inl (_, inr (_, u))) = absurd (omega (arith, with-number (u .answers)))
       go h (inr (_, u)) = absurd (omega (arith, with-number (u .answers)))
 
-  called-listed : {k : ℕ} {c : List ℕ} → Called n ends k c → Listed (length ends / 2) (Proper S) k (at c) × (length ends / 2 ≤ length c)
+  pub called-listed : {k : ℕ} {c : List ℕ} → Called n ends k c → Listed (length ends / 2) (Proper S) k (at c) × (length ends / 2 ≤ length c)
   called-listed (begun f z) = let q = first-zero f z in (start (q .0), q .1)
   called-listed (went-on l f z) = let q = next-zero f z in (more (called-listed l .0) (q .0), q .1)
 
@@ -119,8 +118,7 @@ dressed S c b = cond (backb S b) (c b) none
 some-proper : (S : Tree) → Searched S → Drawable S → (c : ℕ → ℕ) × Proper S c
 unfolding dressed
 some-proper S X d =
-    let c = settled S (d .0) in
-    (
+    let c = settled S (d .0) in (
       dressed S c,
       record {
         no-side = λ k h f. rw f refl;
@@ -236,14 +234,3 @@ module _ (n : ℕ) (ends : List ℕ) (a : Accepted n ends) where
           let l = listed-called n ends a base h (q .2) in
           let same = laid-at n ends a base h (q .1) in
           (q .0, laid n ends a base h (q .1), l, λ r d f. at-last l f (λ e p o. q .3 e p (before-same (length ends / 2) _ (q .1) e e (agree-sym (length ends / 2) (q .1) _ same) (λ b i. refl) o)))
-
--- Where there is no back line there is one choice: the list is over with its first.
-pub one-choice : (n : ℕ) (ends : List ℕ) → ((b : ℕ) → b < length ends / 2 → backb (tree-in (network n ends)) b ≡ false) → {k : ℕ} {c : List ℕ} → Called n ends k c → k ≡ 0
-one-choice n ends none-back (begun f z) = refl
-one-choice n ends none-back (went-on {c = c} {d = d} l f z) =
-    let S = tree-in (network n ends) in
-    let x = next-zero n ends f z .0 in
-    let p = listed-good (length ends / 2) (Proper S) (called-listed n ends l .0) in
-    let b = x .after .place in
-    let h = x .after .within in
-    absurd (omega (arith, x .after .less, p .no-side b h (none-back b h), x .good .no-side b h (none-back b h)))

@@ -54,7 +54,7 @@ pub record BothRinged (net : Network) (choice : List ℕ) (r r′ : Answer) (c c
   pub ring : Ring (Constraint (tree-in net)) (r .second) (at l) (at k)
   pub ring′ : Ring (Constraint (tree-in net)) (r′ .second) (at l′) (at k′)
 
--- Two results are equal in everything, or there is no legal choice and both are rings.
+-- Two results are equal in everything, or both say 7 and show a ring.
 abbrev pub Alike : Network → List ℕ → Answer → Answer → List ℕ → List ℕ → List ℕ → List ℕ → List ℕ → List ℕ → Type 0
 Alike net choice r r′ c c′ l l′ k k′ = ((r ≡ r′) × (c ≡ c′) × (l ≡ l′) × (k ≡ k′)) ⊎ BothRinged net choice r r′ c c′ l l′ k k′
 
