@@ -2,17 +2,18 @@
 -- that is not aligned taken for one, and a choice left out.
 use mathlib.Core.Bool.{true, false, not}
 use mathlib.Core.List.{List, [], _∷_}
-use mathlib.Core.Logic.{inl, inr}
+use mathlib.Core.Logic.{inl, inr, _≢_}
 use mathlib.Core.Path.{_≡_, refl, ap, _∙_}
 use Prim.Native.Nat.{ℕ, suc, _/_, _≤_, _<_}
 use native.Mathlib.Omega.{arith}
 use lib.Dec.{eqb}
 use lib.ListN.{length, replicate}
+use lib.Seq.{ext-getD}
 use borrow.Author.Tests.{eqb-true, not-true}
 use Rattle.laws.specs.Tests.{both, either, all, any}
 use Rattle.laws.specs.Checks.{check}
 use Rattle.laws.specs.Lists.{from, keep}
-use Rattle.laws.proofs.Cases.{cases, bool, true-false}
+use Rattle.laws.proofs.Cases.{cases, bool, true-false, eq-or, lt-or}
 use Rattle.laws.proofs.Tests.{either-of, all-of}
 use Rattle.network.specs.Network.{network, touches, other, joins}
 use Rattle.network.specs.Numbers.{refused, oversize, odd, astray, looped, doubled, mispaired}
@@ -23,7 +24,7 @@ use Rattle.search.specs.Machine.{tree-in, free, lowest-free, take-line, leave, 
 use Rattle.search.specs.Inside.{everyone}
 use Rattle.fork.specs.Ends.{lowestb}
 use Rattle.fork.specs.Fork.{forkb, groupb, sameb, differentb, levelb, wherever, legalb, alignedb}
-use Rattle.fork.proofs.Rule.{back-of}
+use Rattle.fork.proofs.Rule.{back-of, aligned-level, level-of}
 use Rattle.groups.specs.Order.{at, Before}
 use Rattle.groups.proofs.Order.{next-moves}
 use Rattle.choice.specs.Choice.{Proper, Outdone}
@@ -98,6 +99,60 @@ pub not-nine-yet : (r : Answer) (c : List ℕ) → NextChoice 4 k4 (sides 0 1 0)
 not-nine-yet r c f =
     let x = next-outdone 4 k4 k4-accepted (sides 0 1 0) (omega arith) r c LRL-proper (at (sides 1 0 1), RLR-proper, later-than-LRL) f in
     ap (λ (y : Answer). y .number) (x .answers)
+
+-- .. and it is RLR: lines 3 and 5 are on one side in every aligned choice, so nothing lies between
+k4-level : levelb k4-tree 3 5 ≡ true
+unfolding levelb lowestb returnb returns low either from keep any both higher lower climb aboveb
+k4-level = refl
+
+k4-trees : all (λ q. not (backb k4-tree q)) 3 ≡ true
+unfolding all both
+k4-trees = refl
+
+k4-back : backb k4-tree 4 ≡ true
+unfolding both
+k4-back = refl
+
+from-line-3 : {A : Type 0} (q : ℕ) → q < 6 → (q < 3 → A) → (q ≡ 3 → A) → (q ≡ 4 → A) → (q ≡ 5 → A) → A
+from-line-3 q h f g i j =
+    cases (lt-or q 3) f (λ k. cases (eq-or q 3) g (λ d. let d′ : q ≢ 3 = d in cases (eq-or q 4) i (λ e. let e′ : q ≢ 4 = e in j (omega arith))))
+
+module _ (c : ℕ → ℕ) (p : Proper (tree-in (network 4 k4)) c) where
+  level : c 3 ≡ c 5
+  level =
+      let S = tree-in (network 4 k4) in
+      aligned-level S c (p .aligned) 3 5 (level-of S 3 5 (omega arith) (omega arith) (ap (λ (T : Tree). levelb T 3 5) k4-search ∙ k4-level))
+
+  side : c 4 ≤ 1
+  side =
+      let S = tree-in (network 4 k4) in
+      p .aligned .legal .bits 4 (back-of S 4 (omega arith) (ap (λ (T : Tree). backb T 4) k4-search ∙ k4-back))
+
+  tree-byte : (q : ℕ) → q < 3 → c q ≡ 2
+  tree-byte q h = p .no-side q (omega arith) (ap (λ (T : Tree). backb T q) k4-search ∙ not-true _ (all-of _ 3 k4-trees q h))
+
+later-right : (c : ℕ → ℕ) → Proper (tree-in (network 4 k4)) c → Before 6 (at (sides 0 1 0)) c → 0 < c 3
+later-right c p l =
+    from-line-3 (l .place) (l .within)
+    (λ h. absurd (omega (arith, l .less, tree-byte c p (l .place) h, tree-byte (at (sides 0 1 0)) LRL-proper (l .place) h)))
+    (λ e. let z : at (sides 0 1 0) 3 < c 3 = rw e at (l .less) in omega arith)
+    (λ e. let z : at (sides 0 1 0) 4 < c 4 = rw e at (l .less) in absurd (omega (arith, side c p)))
+    (λ e. let z : at (sides 0 1 0) 5 < c 5 = rw e at (l .less) in omega (arith, level c p))
+
+earlier-left : (c : ℕ → ℕ) → Proper (tree-in (network 4 k4)) c → Before 6 c (at (sides 1 0 1)) → c 3 < 1
+earlier-left c p l =
+    from-line-3 (l .place) (l .within)
+    (λ h. absurd (omega (arith, l .less, tree-byte c p (l .place) h, tree-byte (at (sides 1 0 1)) RLR-proper (l .place) h)))
+    (λ e. let z : c 3 < at (sides 1 0 1) 3 = rw e at (l .less) in omega arith)
+    (λ e. let z : c 4 < at (sides 1 0 1) 4 = rw e at (l .less) in absurd (omega arith))
+    (λ e. let z : c 5 < at (sides 1 0 1) 5 = rw e at (l .less) in omega (arith, level c p))
+
+pub after-LRL : (r : Answer) (c : List ℕ) → NextChoice 4 k4 (sides 0 1 0) r c → c ≡ sides 1 0 1
+after-LRL r c f =
+    let x = next-outdone 4 k4 k4-accepted (sides 0 1 0) (omega arith) r c LRL-proper (at (sides 1 0 1), RLR-proper, later-than-LRL) f in
+    cases (x .next .least (at (sides 1 0 1)) RLR-proper later-than-LRL)
+    (λ e. ext-getD 0 c (sides 1 0 1) (omega (arith, x .rest .long)) (λ i h. e i (omega (arith, x .rest .long))))
+    (λ l. absurd (omega (arith, later-right (at c) (x .next .good) (x .next .after), earlier-left (at c) (x .next .good) l)))
 
 pub RLL-is-8 : (r : Answer) (c : List ℕ) → NextChoice 4 k4 (sides 1 0 0) r c → r ≡ refused 8
 RLL-is-8 r c f = next-improper 4 k4 k4-accepted (sides 1 0 0) (omega arith) r c RLL-improper f .answers
