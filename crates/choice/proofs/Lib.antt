@@ -6,3 +6,11 @@ pub mod Crossing
 pub mod Settling
 pub mod Answering
 pub mod Stepping
+pub mod Tight
+pub mod Granted
+pub mod Outcomes
+pub mod RefutedFirst
+pub mod RefutedNext
+pub mod Enumerating
+pub mod Listed
+pub mod OneChoice

@@ -1,4 +1,5 @@
 -- What first choice and next choice say.
 pub mod Choice
 pub mod Calls
+pub mod Listing
 pub mod Inside
