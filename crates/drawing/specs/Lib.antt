@@ -1,0 +1,3 @@
+-- The drawing: the clockwise order that a choice of sides gives, the meshes of an order, and what the call draw says.
+pub mod Order
+pub mod Meshes

@@ -1,0 +1,1 @@
+// The drawing: the clockwise order of the lines at each vertex, and the meshes.
