@@ -8,3 +8,7 @@ pub mod Filling
 pub mod Greatest
 pub mod Wherever
 pub mod Running
+pub mod Orbits
+pub mod Numbering
+pub mod Places
+pub mod Sorting
