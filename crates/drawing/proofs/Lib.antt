@@ -1,1 +1,3 @@
 pub mod Trials
+pub mod Directions
+pub mod Turning

@@ -1,3 +1,4 @@
 -- The drawing: the clockwise order that a choice of sides gives, the meshes of an order, and what the call draw says.
 pub mod Order
 pub mod Meshes
+pub mod Inside
