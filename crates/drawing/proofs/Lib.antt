@@ -1,3 +1,4 @@
 pub mod Trials
 pub mod Directions
 pub mod Turning
+pub mod Following

@@ -1,1 +1,2 @@
 // The drawing: the clockwise order of the lines at each vertex, and the meshes.
+mod meshes;
