@@ -16,6 +16,7 @@ use Rattle.network.specs.Network.{Network, first, second, touches}
 use Rattle.network.specs.Inside.{Fit}
 use Rattle.network.proofs.Lines.{touches-first, touches-second, touches-of}
 use Rattle.drawing.specs.Meshes.{opposite, leave, follow-in, follow}
+use Rattle.drawing.specs.Inside.{after}
 
 -- The other way
 
@@ -102,14 +103,12 @@ module _ (net : Network) (fit : Fit net) where
 
 -- What follows in a cyclic list
 
--- the place after i, round n places
-abbrev pub after : ℕ → ℕ → ℕ
-after n i = cond (ltb (suc i) n) (suc i) 0
-
 pub after-more : (n i : ℕ) → suc i < n → after n i ≡ suc i
+unfolding after
 after-more n i h = rw (lt-ltb (suc i) n h)
 
 pub after-last : (n i : ℕ) → n ≤ suc i → after n i ≡ 0
+unfolding after
 after-last n i h = rw (le-ltb (suc i) n h)
 
 pub after-in : (n i : ℕ) → i < n → after n i < n

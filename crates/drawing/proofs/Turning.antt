@@ -14,8 +14,8 @@ use Rattle.laws.proofs.Places.{place, place-in, at-place, place-at, many-at}
 use Rattle.network.specs.Network.{Network, touches}
 use Rattle.network.specs.Inside.{Fit}
 use Rattle.drawing.specs.Meshes.{opposite, leave, follow, turned, step, either-way}
-use Rattle.drawing.specs.Inside.{Whole}
-use Rattle.drawing.proofs.Directions.{opposite-half, opposite-twice, opposite-below, leave-half, leave-below, leave-one, leave-from, from-end, from-leaves, after, after-in, after-one, follow-at}
+use Rattle.drawing.specs.Inside.{Whole, after}
+use Rattle.drawing.proofs.Directions.{opposite-half, opposite-twice, opposite-below, leave-half, leave-below, leave-one, leave-from, from-end, from-leaves, after-in, after-one, follow-at}
 
 module _ (net : Network) (fit : Fit net) (live : ℕ → Bool) (order : ℕ → List ℕ) (whole : Whole net live order) where
   abbrev n : ℕ

@@ -1,2 +1,3 @@
 // The drawing: the clockwise order of the lines at each vertex, and the meshes.
 mod meshes;
+mod turns;

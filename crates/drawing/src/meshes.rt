@@ -2,7 +2,7 @@
 ghost use mathlib.Core.Path.{_≡_};
 ghost use Prim.Native.Nat.{ℕ, _+_, _*_, _≤_, _<_};
 ghost use lib.ListN.{length, getD};
-ghost use Rattle.drawing.specs.Inside.{Numberable, Numbered, Followable, Followed};
+ghost use Rattle.drawing.specs.Inside.{Numberable, Numbered, Followable, Followed, Meshed, Sized};
 use network::wide;
 
 // How many meshes there are, and the mesh of each direction.
@@ -41,4 +41,24 @@ fn follow(directions: usize, d: usize, number: usize, nexts: &[u16], mesh: &mut 
         mesh[x] = number as u16;
         x = wide(nexts[x]);
     }
+}
+
+// The number of different lines on each mesh.
+pub fn sized(lines: usize, mesh: &[u16]) -> [u16; 4097]
+    requires { ⌜ Meshed lines (now mesh) ⌝ }
+    ensures { λ r. ⌜ Sized lines (now (mesh .entry)) r ⌝ }
+{
+    let mut sizes = [0u16; 4097];
+    let mut k = 0;
+    while k < lines {
+        let after = k + 1;
+        let forth = wide(mesh[2 * k]);
+        let back = wide(mesh[2 * k + 1]);
+        sizes[forth] = sizes[forth] + 1;
+        if forth != back {
+            sizes[back] = sizes[back] + 1;
+        }
+        k = after;
+    }
+    sizes
 }
