@@ -5,3 +5,5 @@ pub mod Following
 pub mod Sizing
 pub mod Links
 pub mod Linkable
+pub mod Fans
+pub mod Discovered

@@ -12,3 +12,5 @@ pub mod Orbits
 pub mod Numbering
 pub mod Places
 pub mod Sorting
+pub mod Gathering
+pub mod Agreeing
