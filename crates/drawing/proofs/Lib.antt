@@ -7,3 +7,7 @@ pub mod Links
 pub mod Linkable
 pub mod Fans
 pub mod Discovered
+pub mod Clockwise
+pub mod Drawn
+pub mod Flat
+pub mod Mesh
