@@ -11,3 +11,6 @@ pub mod Clockwise
 pub mod Drawn
 pub mod Flat
 pub mod Mesh
+pub mod Hanging
+pub mod Lengths
+pub mod Bucketing

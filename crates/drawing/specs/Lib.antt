@@ -2,3 +2,4 @@
 pub mod Order
 pub mod Meshes
 pub mod Inside
+pub mod Chains

@@ -1,3 +1,4 @@
 // The drawing: the clockwise order of the lines at each vertex, and the meshes.
+mod chains;
 mod meshes;
 mod turns;
