@@ -14,7 +14,7 @@ use Rattle.tree.proofs.Searched.{Searched}
 use Rattle.tree.proofs.Grown.{Grown, searched, directed}
 use Rattle.drawing.specs.Order.{order-at}
 use Rattle.drawing.specs.Inside.{Whole}
-use Rattle.drawing.proofs.Fans.{fanned}
+use Rattle.drawing.proofs.Leaving.{fanned}
 use Rattle.drawing.proofs.Clockwise.{holds, only}
 
 module _ (n m : ℕ) (ends kind height parent : List ℕ) (G : Grown n m ends kind height parent) where

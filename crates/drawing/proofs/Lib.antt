@@ -5,7 +5,7 @@ pub mod Following
 pub mod Sizing
 pub mod Links
 pub mod Linkable
-pub mod Fans
+pub mod Leaving
 pub mod Discovered
 pub mod Clockwise
 pub mod Drawn
@@ -14,3 +14,4 @@ pub mod Mesh
 pub mod Hanging
 pub mod Lengths
 pub mod Bucketing
+pub mod Fanning

@@ -1,4 +1,5 @@
 // The drawing: the clockwise order of the lines at each vertex, and the meshes.
 mod chains;
+mod fans;
 mod meshes;
 mod turns;
