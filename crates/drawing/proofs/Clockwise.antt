@@ -20,7 +20,7 @@ use Rattle.tree.specs.Tree.{Tree}
 use Rattle.tree.specs.Words.{Line, TreeLine, BackLine, Above, Leaves}
 use Rattle.tree.proofs.Searched.{Searched}
 use Rattle.drawing.specs.Order.{is-left, is-right, discovered, incoming, beside, clockwise}
-use Rattle.drawing.proofs.Leaving.{Fanned}
+use Rattle.drawing.specs.Walks.{Fanned}
 use Rattle.drawing.proofs.Discovered.{Over, many-self, many-not, over, once, not-below, one-stem}
 
 module _ (S : Tree) (X : Searched S) (out : ℕ → List ℕ) (O : Fanned S out) (side : ℕ → ℕ) where

@@ -16,7 +16,7 @@ use Rattle.tree.specs.Tree.{Tree}
 use Rattle.tree.specs.Words.{Line, TreeLine, BackLine, Above, Leaves}
 use Rattle.tree.proofs.Searched.{Searched}
 use Rattle.drawing.specs.Order.{discovered}
-use Rattle.drawing.proofs.Leaving.{Fanned}
+use Rattle.drawing.specs.Walks.{Fanned}
 
 -- a back line that starts at or above v
 pub record Over (S : Tree) (v b : ℕ) : Type 0 where

@@ -17,12 +17,8 @@ use Rattle.laws.proofs.Sorting.{many-sort, all-sort}
 use Rattle.laws.proofs.Gathering.{halves}
 use Rattle.tree.specs.Tree.{Tree}
 use Rattle.tree.specs.Words.{Leaves}
+use Rattle.drawing.specs.Walks.{Fanned}
 use Rattle.drawing.specs.Order.{side-of, is-left, is-right, leaving, rank, nested, fan}
-
--- the lines that leave each vertex, each once
-pub record Fanned (S : Tree) (out : ℕ → List ℕ) : Type 0 where
-  pub leaves : (v : ℕ) → v < S .vertices → All (Leaves S v) (out v)
-  pub once : (v k : ℕ) → v < S .vertices → Leaves S v k → many k (out v) ≡ 1
 
 module _ (S : Tree) where
   pub leaving-all : (v : ℕ) → All (Leaves S v) (leaving S v)

@@ -15,3 +15,5 @@ pub mod Hanging
 pub mod Lengths
 pub mod Bucketing
 pub mod Fanning
+pub mod Starting
+pub mod Walking

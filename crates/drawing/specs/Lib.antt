@@ -3,3 +3,4 @@ pub mod Order
 pub mod Meshes
 pub mod Inside
 pub mod Chains
+pub mod Walks

@@ -3,3 +3,5 @@ mod chains;
 mod fans;
 mod meshes;
 mod turns;
+mod walks;
+mod ways;
