@@ -17,3 +17,5 @@ pub mod Bucketing
 pub mod Fanning
 pub mod Starting
 pub mod Walking
+pub mod Grouping
+pub mod Spreading

@@ -4,3 +4,4 @@ pub mod Meshes
 pub mod Inside
 pub mod Chains
 pub mod Walks
+pub mod Laying
