@@ -15,7 +15,8 @@ use Rattle.tree.specs.Words.{TreeLine, Above, Return}
 use Rattle.tree.proofs.Searched.{Searched}
 use Rattle.tree.proofs.Returns.{return-above, low-least, low-some}
 use Rattle.fork.specs.Ends.{Lowest}
-use Rattle.fork.specs.Fork.{left, Fork, Group, Legal, Aligned, Same, Level, Constraint, same-side, other-side, forkb, groupb}
+use Rattle.fork.specs.Fork.{Fork, Group, Legal, Aligned, Same, Level, Constraint, same-side, other-side, forkb, groupb}
+use Rattle.side.specs.Sides.{left}
 use Rattle.fork.proofs.Rule.{fork-yes, fork-of, fork-turned, group-yes, group-of, in-lowest}
 
 -- b is in some group

@@ -19,7 +19,8 @@ use Rattle.tree.specs.Words.{Line, TreeLine, BackLine}
 use Rattle.tree.proofs.Searched.{Searched}
 use Rattle.tree.proofs.Returns.{return-yes, return-of, low-has, return-self, return-back}
 use Rattle.fork.specs.Ends.{Lowest, high, top, bottom}
-use Rattle.fork.specs.Fork.{right, Fork, Group, Aligned, Same, Different, Level, forkb}
+use Rattle.fork.specs.Fork.{Fork, Group, Aligned, Same, Different, Level, forkb}
+use Rattle.side.specs.Sides.{right}
 use Rattle.fork.specs.Link.{rival, Held, heldb, Overlap, overlapb, Link, to-top, tops, to-bottom, turned, Obeys}
 use Rattle.fork.proofs.Ends.{high-most, high-has, high-some, top-is, bottom-is, top-back}
 use Rattle.fork.proofs.Rule.{fork-yes, fork-of, fork-turned, legal-same, legal-different}

@@ -12,7 +12,8 @@ use Rattle.tree.specs.Tree.{Tree}
 use Rattle.tree.specs.Returns.{end, backb, low}
 use Rattle.tree.specs.Words.{BackLine, Return, Leaves}
 use Rattle.tree.proofs.Returns.{return-yes, return-of}
-use Rattle.fork.specs.Fork.{Fork, Group, Legal, Aligned, Same, Different, Level, forkb, groupb, sameb, differentb, levelb, wherever, legalb, alignedb, right}
+use Rattle.fork.specs.Fork.{Fork, Group, Legal, Aligned, Same, Different, Level, forkb, groupb, sameb, differentb, levelb, wherever, legalb, alignedb}
+use Rattle.side.specs.Sides.{right}
 use Rattle.fork.specs.Ends.{Lowest}
 use Rattle.fork.proofs.Ends.{lowest-yes, lowest-of}
 

@@ -1,4 +1,4 @@
--- The fork rule, and alignment: as propositions, and as tests that compute. (docs/RULES.md, "The fork rule".)
+-- The fork rule, and alignment: as propositions, and as tests that compute. (docs/RULES.md, "Forks" and "Choices".)
 use mathlib.Core.Bool.{Bool, not}
 use mathlib.Core.Path.{_≡_}
 use Prim.Native.Nat.{ℕ, _≤_, _<_}
@@ -7,14 +7,8 @@ use Rattle.laws.specs.Tests.{both, either, all, any}
 use Rattle.tree.specs.Tree.{Tree}
 use Rattle.tree.specs.Returns.{end, backb, returnb, low}
 use Rattle.tree.specs.Words.{Line, TreeLine, BackLine, Return}
+use Rattle.side.specs.Sides.{right}
 use Rattle.fork.specs.Ends.{Lowest, lowestb}
-
--- The two sides.
-abbrev pub left : ℕ
-left = 0
-
-abbrev pub right : ℕ
-right = 1
 
 -- A fork: two different lines that leave one vertex.
 pub record Fork (S : Tree) (f g : ℕ) : Type 0 where

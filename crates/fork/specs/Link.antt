@@ -12,7 +12,8 @@ use Rattle.tree.specs.Tree.{Tree}
 use Rattle.tree.specs.Returns.{end, returnb, low}
 use Rattle.tree.specs.Words.{TreeLine, BackLine, Return}
 use Rattle.fork.specs.Ends.{Lowest, high, top, bottom}
-use Rattle.fork.specs.Fork.{Fork, forkb, right}
+use Rattle.fork.specs.Fork.{Fork, forkb}
+use Rattle.side.specs.Sides.{right}
 
 -- The least low of the other lines that leave where f leaves; where there are none, the height of that vertex.
 unfoldable pub rival : Tree → ℕ → ℕ

@@ -165,3 +165,11 @@ many-count x zero l h = many-nil x ∙ sym (count-zero _)
 many-count x (suc n) l h =
     rw (take-suc l n 0 (omega arith))
     (omega (arith, many-snoc x (take n l) (getD l n 0), many-count x n l (omega arith), count-more (λ i. eqb (getD l i 0) x) n))
+
+-- where some are counted, there is one
+pub count-some : (p : ℕ → Bool) (n : ℕ) → 0 < count p n → (x : ℕ) × (x < n) × (p x ≡ true)
+count-some p zero h = absurd (omega (arith, count-zero p))
+count-some p (suc n) h =
+    cases (bool (p n))
+    (λ t. (n, omega arith, t))
+    (λ f. let r = count-some p n (omega (arith, count-no p n f)) in (r .0, omega (arith, r .1), r .2))

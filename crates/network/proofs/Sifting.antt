@@ -21,7 +21,7 @@ false-when : (b : Bool) → (b ≡ true → ⊥) → b ≡ false
 false-when true d = absurd (d refl)
 false-when false d = refl
 
-fit-when : (n : ℕ) (ends : List ℕ) → oversize n (length ends) ≡ false → odd (length ends) ≡ false → astray n ends ≡ false → mispaired ends ≡ false → Fit (network n ends)
+pub fit-when : (n : ℕ) (ends : List ℕ) → oversize n (length ends) ≡ false → odd (length ends) ≡ false → astray n ends ≡ false → mispaired ends ≡ false → Fit (network n ends)
 fit-when n ends two three four five =
     let s = sized n (length ends) two in
     let e = even (length ends) three in
@@ -83,16 +83,16 @@ module _ (n : ℕ) (ends : List ℕ) (short : Bool) (R : ℕ → Type 0) (G : Ty
   refuse-rest three (inr (two, inr (odd, inr (four, inr (five, inl (c, a)))))) f g = inr (two, inr (λ x. true-false x three, inr (four, inr (five, inl (c, g a)))))
   refuse-rest three (inr (two, inr (odd, inr (four, inr (five, inr (c, a)))))) f g = inr (two, inr (λ x. true-false x three, inr (four, inr (five, inr (c, f 6 (omega arith) a)))))
 
--- Where no refusal is possible, the network is well-formed and the rest is granted.
-pub checked-grant : (n : ℕ) (ends : List ℕ) (short : Bool) (R : ℕ → Type 0) (G : Type 0) → Checked n ends short R G → ((k : ℕ) → 0 < k → R k → ⊥)
-    → Fit (network n ends) × Connected (network n ends) × G
-checked-grant n ends short R G (inl (t, a)) d = absurd (d 2 (omega arith) a)
-checked-grant n ends short R G (inr (two, inl (t, a))) d = absurd (d 3 (omega arith) a)
-checked-grant n ends short R G (inr (two, inr (three, inl (t, a)))) d = absurd (d 4 (omega arith) a)
-checked-grant n ends short R G (inr (two, inr (three, inr (four, inl (t, a))))) d = absurd (d 5 (omega arith) a)
-checked-grant n ends short R G (inr (two, inr (three, inr (four, inr (five, inl (c, a)))))) d =
-    (fit-when n ends (false-when _ two) (false-when _ (λ t. three (either-first _ _ t))) (false-when _ four) (false-when _ five), c, a)
-checked-grant n ends short R G (inr (two, inr (three, inr (four, inr (five, inr (c, a)))))) d = absurd (d 6 (omega arith) a)
+-- What follows from each refusal, and from what is granted to a well-formed network, follows.
+pub checked-elim : (n : ℕ) (ends : List ℕ) (short : Bool) (R : ℕ → Type 0) (G : Type 0) {C : Type 0} → Checked n ends short R G → ((k : ℕ) → 0 < k → k ≤ 6 → R k → C)
+    → (Fit (network n ends) → Connected (network n ends) → G → C) → C
+checked-elim n ends short R G (inl (t, a)) f g = f 2 (omega arith) (omega arith) a
+checked-elim n ends short R G (inr (two, inl (t, a))) f g = f 3 (omega arith) (omega arith) a
+checked-elim n ends short R G (inr (two, inr (three, inl (t, a)))) f g = f 4 (omega arith) (omega arith) a
+checked-elim n ends short R G (inr (two, inr (three, inr (four, inl (t, a))))) f g = f 5 (omega arith) (omega arith) a
+checked-elim n ends short R G (inr (two, inr (three, inr (four, inr (five, inl (c, a)))))) f g =
+    g (fit-when n ends (false-when _ two) (false-when _ (λ t. three (either-first _ _ t))) (false-when _ four) (false-when _ five)) c a
+checked-elim n ends short R G (inr (two, inr (three, inr (four, inr (five, inr (c, a)))))) f g = f 6 (omega arith) (omega arith) a
 
 -- Two results of the same checks agree, where two like outcomes do.
 pub checked-once : (n : ℕ) (ends : List ℕ) (short : Bool) {R R′ : ℕ → Type 0} {G G′ C : Type 0} → ((k : ℕ) → R k → R′ k → C) → (G → G′ → C)

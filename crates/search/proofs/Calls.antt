@@ -16,9 +16,8 @@ use Rattle.network.specs.Network.{Network, network, Connected}
 use Rattle.network.specs.Numbers.{refused, done, oversize, odd, Checked, Sifted}
 use Rattle.network.specs.Inside.{Fit}
 use Rattle.network.specs.declared.Answer.{Answer}
-use Rattle.network.proofs.Sifting.{sift-fit, sift-refused, sift-connected, refuse-2, refuse-3, refuse-rest, checked-grant, checked-once}
-use Rattle.search.specs.Machine.{finished}
-use Rattle.search.specs.Orient.{Orient, Explored, unsearched, searched, back-lines}
+use Rattle.network.proofs.Sifting.{sift-fit, sift-refused, sift-connected, refuse-2, refuse-3, refuse-rest, checked-elim, checked-once}
+use Rattle.search.specs.Orient.{Orient, Untouched, Oriented, cramped, Explored, unsearched, searched, back-lines}
 use Rattle.search.specs.Inside.{Settled}
 use Rattle.search.specs.declared.Search.{Search}
 use Rattle.search.proofs.Deep.{finished-both}
@@ -45,8 +44,9 @@ module _ (n : ℕ) (ends : List ℕ) (k : ℕ) (s : Sifted n ends k) where
 -- a search with the number 0 is that of a connected network
 pub explored : (n : ℕ) (ends : List ℕ) (r : Search) → Explored n ends r → r .number ≡ 0 → Fit (network n ends) × Connected (network n ends) × (r ≡ searched (network n ends))
 explored n ends r x z =
-    checked-grant n ends false (λ k. r ≡ unsearched k) (r ≡ searched (network n ends)) x
-    (λ k some e. let y : r .number ≡ k = ap (λ (q : Search). q .number) e in omega arith)
+    checked-elim n ends false (λ k. r ≡ unsearched k) (r ≡ searched (network n ends)) x
+    (λ k some few (e : r ≡ unsearched k). absurd (let y : r .number ≡ k = ap (λ (q : Search). q .number) e in omega arith))
+    (λ f c e. (f, c, e))
 
 -- orient
 
@@ -74,17 +74,10 @@ module _ (n : ℕ) (ends : List ℕ) (q : Search) (x : Explored n ends q) (z : q
 
 module _ (n : ℕ) (ends ks hs : List ℕ) (two : Bool) (is-two : two ≡ oversize n (length ends)) where
   abbrev short : Bool
-  short = either (ltb (length ks) (length ends / 2)) (ltb (length hs) n)
-
-  abbrev Result : Answer → List ℕ → List ℕ → Type 0
-  Result r ks′ hs′ = (r ≡ done (back-lines (network n ends)) 0) × (ks′ ≡ filled (length ends / 2) (finished (network n ends) .kind) ks)
-      × (hs′ ≡ filled n (finished (network n ends) .height) hs)
-
-  abbrev Untouched : Answer → List ℕ → List ℕ → ℕ → Type 0
-  Untouched r ks′ hs′ k = (r ≡ refused k) × (ks′ ≡ ks) × (hs′ ≡ hs)
+  short = cramped n ends ks hs
 
   pub orient-2 : two ≡ true → (r : Answer) → r ≡ refused 2 → Orient n ends ks hs r ks hs
-  orient-2 t r e = refuse-2 n ends short (Untouched r ks hs) (Result r ks hs) (sym is-two ∙ t) (e, refl, refl)
+  orient-2 t r e = refuse-2 n ends short (Untouched ks hs r ks hs) (Oriented (network n ends) ks hs r ks hs) (sym is-two ∙ t) (record { answers = e; same-kinds = refl; same-heights = refl })
 
   module _ (not-two : two ≡ false) where
     in-limits : oversize n (length ends) ≡ false
@@ -92,39 +85,47 @@ module _ (n : ℕ) (ends ks hs : List ℕ) (two : Bool) (is-two : two ≡ oversi
 
     module _ (three : Bool) (is-three : three ≡ odd (length ends)) where
       orient-3 : either (odd (length ends)) short ≡ true → (r : Answer) → r ≡ refused 3 → Orient n ends ks hs r ks hs
-      orient-3 t r e = refuse-3 n ends short (Untouched r ks hs) (Result r ks hs) in-limits t (e, refl, refl)
+      orient-3 t r e = refuse-3 n ends short (Untouched ks hs r ks hs) (Oriented (network n ends) ks hs r ks hs) in-limits t (record { answers = e; same-kinds = refl; same-heights = refl })
 
       pub orient-odd : three ≡ true → (r : Answer) → r ≡ refused 3 → Orient n ends ks hs r ks hs
       orient-odd t = orient-3 (either-first _ _ (sym is-three ∙ t))
 
       pub orient-few-kinds : length ks < length ends / 2 → (r : Answer) → r ≡ refused 3 → Orient n ends ks hs r ks hs
+      unfolding cramped
       orient-few-kinds l = orient-3 (either-second _ _ (either-first _ _ (lt-ltb _ _ l)))
 
       pub orient-few-heights : length hs < n → (r : Answer) → r ≡ refused 3 → Orient n ends ks hs r ks hs
+      unfolding cramped
       orient-few-heights l = orient-3 (either-second _ _ (either-second _ _ (lt-ltb _ _ l)))
 
       module _ (not-three : three ≡ false) (kinds-room : length ends / 2 ≤ length ks) (heights-room : n ≤ length hs) (q : Search) (x : Explored n ends q) where
         enough : either (odd (length ends)) short ≡ false
+        unfolding cramped
         enough = either-no (sym is-three ∙ not-three) (either-no (le-ltb _ _ kinds-room) (le-ltb _ _ heights-room))
 
         pub orient-refused : (q .number ≡ 0 → ⊥) → (r : Answer) → r ≡ refused (q .number) → Orient n ends ks hs r ks hs
         orient-refused d r e =
-            refuse-rest n ends short (Untouched r ks hs) (Result r ks hs) enough x
-            (λ k some (u : q ≡ unsearched k). (e ∙ ap refused (ap (λ (y : Search). y .number) u), refl, refl))
+            refuse-rest n ends short (Untouched ks hs r ks hs) (Oriented (network n ends) ks hs r ks hs) enough x
+            (λ k some (u : q ≡ unsearched k). record { answers = e ∙ ap refused (ap (λ (y : Search). y .number) u); same-kinds = refl; same-heights = refl })
             (λ (g : q ≡ searched (network n ends)). absurd (d (ap (λ (y : Search). y .number) g)))
 
         pub orient-done : q .number ≡ 0 → (r : Answer) (ks′ hs′ : List ℕ) → r ≡ done (length ends / 2 + 1 - n) 0
             → ks′ ≡ filled (length ends / 2) (q .kinds) ks → hs′ ≡ filled n (q .heights) hs → Orient n ends ks hs r ks′ hs′
         orient-done z r ks′ hs′ e a b =
             let backs : length ends / 2 + 1 - n ≡ back-lines (network n ends) = omega (arith, counted n ends q x z) in
-            refuse-rest n ends short (Untouched r ks′ hs′) (Result r ks′ hs′) enough x
+            refuse-rest n ends short (Untouched ks hs r ks′ hs′) (Oriented (network n ends) ks hs r ks′ hs′) enough x
             (λ k some (u : q ≡ unsearched k). absurd (let y : q .number ≡ k = ap (λ (v : Search). v .number) u in omega arith))
-            (λ (g : q ≡ searched (network n ends)). (e ∙ ap (λ (y : ℕ). done y 0) backs, a ∙ ap (λ (y : Search). filled (length ends / 2) (y .kinds) ks) g, b ∙ ap (λ (y : Search). filled n (y .heights) hs) g))
+            (λ (g : q ≡ searched (network n ends)). record {
+              answers = e ∙ ap (λ (y : ℕ). done y 0) backs;
+              each-kind = a ∙ ap (λ (y : Search). filled (length ends / 2) (y .kinds) ks) g;
+              each-height = b ∙ ap (λ (y : Search). filled n (y .heights) hs) g;
+            })
 
 -- Two results that the statement allows are equal.
 pub orient-once : (n : ℕ) (ends ks hs : List ℕ) (r r′ : Answer) (ks′ ks″ hs′ hs″ : List ℕ) → Orient n ends ks hs r ks′ hs′ → Orient n ends ks hs r′ ks″ hs″
     → (r ≡ r′) × (ks′ ≡ ks″) × (hs′ ≡ hs″)
 orient-once n ends ks hs r r′ ks′ ks″ hs′ hs″ =
-    checked-once n ends (either (ltb (length ks) (length ends / 2)) (ltb (length hs) n))
-    (λ k (a : Untouched n ends ks hs _ refl r ks′ hs′ k) (b : Untouched n ends ks hs _ refl r′ ks″ hs″ k). (a .0 ∙ sym (b .0), a .1 ∙ sym (b .1), a .2 ∙ sym (b .2)))
-    (λ (a : Result n ends ks hs _ refl r ks′ hs′) (b : Result n ends ks hs _ refl r′ ks″ hs″). (a .0 ∙ sym (b .0), a .1 ∙ sym (b .1), a .2 ∙ sym (b .2)))
+    checked-once n ends (cramped n ends ks hs)
+    (λ k (a : Untouched ks hs r ks′ hs′ k) (b : Untouched ks hs r′ ks″ hs″ k). (a .answers ∙ sym (b .answers), a .same-kinds ∙ sym (b .same-kinds), a .same-heights ∙ sym (b .same-heights)))
+    (λ (a : Oriented (network n ends) ks hs r ks′ hs′) (b : Oriented (network n ends) ks hs r′ ks″ hs″).
+    (a .answers ∙ sym (b .answers), a .each-kind ∙ sym (b .each-kind), a .each-height ∙ sym (b .each-height)))

@@ -8,3 +8,4 @@ pub mod Reached
 pub mod Grows
 pub mod Settled
 pub mod Calls
+pub mod Refuted

@@ -2,7 +2,7 @@
 use mathlib.Core.Bool.{Bool, false}
 use mathlib.Core.List.{List}
 use mathlib.Core.Path.{_≡_}
-use Prim.Native.Nat.{ℕ, _/_}
+use Prim.Native.Nat.{ℕ, _+_, _/_}
 use lib.Dec.{ltb}
 use lib.ListN.{length, take, replicate}
 use Rattle.laws.specs.Tests.{either}
@@ -19,13 +19,25 @@ use Rattle.search.specs.declared.Search.{Search}
 unfoldable pub back-lines : Network → ℕ
 back-lines net = many back (take (net .lines) (finished net .kind))
 
--- A byte a line and a height a vertex: with 0, the number of back lines, the kinds and the heights; with a refusal, its number, and nothing changed.
+-- 3: room for less than a byte a line, or for less than a height a vertex.
+unfoldable pub cramped : ℕ → List ℕ → List ℕ → List ℕ → Bool
+cramped n ends kinds heights = either (ltb (length kinds) (length ends / 2)) (ltb (length heights) n)
+
+-- A refusal answers its number and changes nothing.
+pub record Untouched (kinds heights : List ℕ) (r : Answer) (kinds′ heights′ : List ℕ) (k : ℕ) : Type 0 where
+  pub answers : r ≡ refused k
+  pub same-kinds : kinds′ ≡ kinds
+  pub same-heights : heights′ ≡ heights
+
+-- With 0, the number of back lines, what each line is, and each vertex's height.
+pub record Oriented (net : Network) (kinds heights : List ℕ) (r : Answer) (kinds′ heights′ : List ℕ) : Type 0 where
+  pub answers : r ≡ done (back-lines net) 0
+  pub each-kind : kinds′ ≡ filled (net .lines) (finished net .kind) kinds
+  pub each-height : heights′ ≡ filled (net .vertices) (finished net .height) heights
+
 abbrev pub Orient : ℕ → List ℕ → List ℕ → List ℕ → Answer → List ℕ → List ℕ → Type 0
 Orient n ends kinds heights r kinds′ heights′ =
-    let net = network n ends in
-    Checked n ends (either (ltb (length kinds) (length ends / 2)) (ltb (length heights) n))
-    (λ k. (r ≡ refused k) × (kinds′ ≡ kinds) × (heights′ ≡ heights))
-    ((r ≡ done (back-lines net) 0) × (kinds′ ≡ filled (net .lines) (finished net .kind) kinds) × (heights′ ≡ filled n (finished net .height) heights))
+    Checked n ends (cramped n ends kinds heights) (Untouched kinds heights r kinds′ heights′) (Oriented (network n ends) kinds heights r kinds′ heights′)
 
 -- What every call that needs the tree is given: the number of the network's own refusal and empty tables, or 0 and the tables of the search.
 abbrev pub unsearched : ℕ → Search

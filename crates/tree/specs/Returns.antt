@@ -1,4 +1,4 @@
--- The returns of a line, and its low. (docs/RULES.md, "The search".)
+-- The returns of a line, and its low. (docs/RULES.md, "Returns and lows".)
 use mathlib.Core.Bool.{Bool, cond, not}
 use mathlib.Core.List.{List, [], _∷_, map, foldr}
 use Prim.Native.Nat.{ℕ, zero, suc, min}

@@ -1,0 +1,2 @@
+-- What the calls say to C.
+pub mod Face

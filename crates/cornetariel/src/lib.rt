@@ -1,0 +1,29 @@
+// The calls under one roof, for Rattle and for C.
+//
+// For C each call has its slices as a pointer and then a length, and returns its whole answer as one number: see include/cornetariel.h. Their
+// statements say that this number packs an answer that the call's own statement allows (specs/Face.antt).
+ghost use mathlib.Core.Path.{_≡_};
+ghost use Prim.Native.Nat.{ℕ, _+_, _*_, _<_};
+ghost use Rattle.search.specs.Orient.{Orient};
+ghost use Rattle.cornetariel.specs.Face.{packed, Packed, Small};
+use network::Answer;
+
+#[no_mangle]
+pub extern "C" fn cornetariel_orient(
+    vertices: usize,
+    ends: &[u16],
+    kinds: &mut [u8],
+    heights: &mut [u16],
+) -> u64
+    ensures { λ r. ⌜ Packed (λ a. Orient vertices (now (ends .entry)) (now (kinds .entry)) (now (heights .entry)) a (now (kinds .exit)) (now (heights .exit))) r ⌝ }
+{
+    pack(search::orient(vertices, ends, kinds, heights))
+}
+
+// An answer as one number.
+fn pack(answer: Answer) -> u64
+    requires { ⌜ Small answer ⌝ }
+    ensures { λ r. ⌜ r ≡ packed answer ⌝ }
+{
+    answer.number as u64 + 256 * (answer.count as u64) + 4294967296 * (answer.second as u64)
+}

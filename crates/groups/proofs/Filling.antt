@@ -1,0 +1,227 @@
+-- Loops that write a list from the front: each place below i has what it should, and the rest is as it was.
+use mathlib.Core.Bool.{Bool, true, false, not}
+use mathlib.Core.List.{List}
+use mathlib.Core.Logic.{inl, inr, _≢_}
+use mathlib.Core.Path.{_≡_, refl, sym, _∙_, ap}
+use Prim.Native.Nat.{ℕ, _+_, _%_, _≤_, _<_}
+use native.Mathlib.Numerals.{add-one}
+use native.Mathlib.Omega.{arith}
+use lib.Dec.{eqb}
+use lib.ListN.{length, set, length-set}
+use lib.Seq.{getD-set-same, getD-set-other}
+use borrow.Author.Tests.{eq-eqb, ne-eqb, lt-leb, le-leb, not-true, not-false}
+use Rattle.laws.specs.Tests.{both, all}
+use Rattle.laws.proofs.Cases.{cases, eq-or, bool, true-false}
+use Rattle.laws.proofs.Tests.{all-yes, all-of}
+use Rattle.groups.specs.Order.{at}
+use Rattle.groups.specs.Groups.{Put, Relabelled, Recoloured, fitb, fitsb}
+use Rattle.groups.specs.Calls.{Past, Numbered, Level, Levelled, Moved, Flipped, Copied, Sought, Rewritten, Advanced, Stuck, Reading, Wide}
+use Rattle.groups.proofs.Choosing.{pivot-more, no-pivot-more, pivot-here}
+
+pub put-at : (l : List ℕ) (v x : ℕ) → v < length l → Put (at l) v x (at (set l v x))
+put-at l v x h = record { here = getD-set-same l v x 0 h; there = λ b e. getD-set-other l v b x 0 e }
+
+pub record Filled (P : ℕ → ℕ → Type 0) (n i : ℕ) (old new : List ℕ) : Type 0 where
+  pub upto : i ≤ n
+  pub room : n ≤ length old
+  pub long : length new ≡ length old
+  pub done : (j : ℕ) → j < i → P j (at new j)
+  pub rest : (j : ℕ) → i ≤ j → at new j ≡ at old j
+
+pub filled-none : (P : ℕ → ℕ → Type 0) (n : ℕ) (l : List ℕ) → n ≤ length l → Filled P n 0 l l
+filled-none P n l h = record { upto = omega arith; room = h; long = refl; done = λ j o. absurd (omega arith); rest = λ j o. refl }
+
+pub filled-more : {P : ℕ → ℕ → Type 0} {n i : ℕ} {old l : List ℕ} {v : ℕ} → Filled P n i old l → i < n → P i v → Filled P n (i + 1) old (set l i v)
+filled-more {P} {n} {i} {old} {l} {v} f h p =
+    let p′ = put-at l i v (omega (arith, f .room, f .long)) in
+    record {
+      upto = omega arith;
+      room = f .room;
+      long = omega (arith, f .long, length-set l i v);
+      done = λ j o. cases (eq-or j i) (λ e. rw (e, p′ .here) p) (λ d. let d′ : j ≢ i = d in rw (p′ .there j d) (f .done j (omega arith)));
+      rest = λ j o. p′ .there j (λ e. omega arith) ∙ f .rest j (omega arith);
+    }
+
+filled-all : (P : ℕ → ℕ → Type 0) (n i : ℕ) (old l : List ℕ) → Filled P n i old l → n ≤ i → (j : ℕ) → j < n → P j (at l j)
+filled-all P n i old l f h j o = f .done j (omega arith)
+
+filled-rest : (P : ℕ → ℕ → Type 0) (n i : ℕ) (old l : List ℕ) → Filled P n i old l → Past n old l
+filled-rest P n i old l f j o = f .rest j (omega (arith, f .upto))
+
+-- Each line's own number
+
+unfoldable pub Own : ℕ → ℕ → Type 0
+Own j v = v ≡ j
+
+module _ (lines b : ℕ) (old l : List ℕ) (f : Filled Own lines b old l) where
+  pub own-more : b < lines → Filled Own lines (b + 1) old (set l b b)
+  unfolding Own
+  own-more h = filled-more f h refl
+
+  pub numbered : lines ≤ b → Numbered lines l
+  unfolding Own
+  numbered h = record { own = filled-all Own lines b old l f h }
+
+-- 0 or 2
+
+unfoldable pub Levels : List ℕ → ℕ → ℕ → Type 0
+Levels kinds j v = Level (at kinds j) v
+
+module _ (lines b : ℕ) (kinds old l : List ℕ) (f : Filled (Levels kinds) lines b old l) where
+  pub levels-more : (v : ℕ) → b < lines → Level (at kinds b) v → Filled (Levels kinds) lines (b + 1) old (set l b v)
+  unfolding Levels
+  levels-more v h q = filled-more f h q
+
+  pub levelled : lines ≤ b → Levelled lines kinds l
+  unfolding Levels
+  levelled h = record { each = filled-all (Levels kinds) lines b old l f h }
+
+-- The first choice
+
+unfoldable pub Copies : List ℕ → ℕ → ℕ → Type 0
+Copies parity j v = v ≡ at parity j
+
+module _ (lines b : ℕ) (parity old l : List ℕ) (f : Filled (Copies parity) lines b old l) where
+  pub copies-more : b < lines → Filled (Copies parity) lines (b + 1) old (set l b (at parity b))
+  unfolding Copies
+  copies-more h = filled-more f h refl
+
+  pub copied : lines ≤ b → Copied lines parity old l
+  unfolding Copies
+  copied h = record { bytes = filled-all (Copies parity) lines b old l f h; rest = filled-rest (Copies parity) lines b old l f }
+
+-- Turning
+
+unfoldable pub Turns : List ℕ → List ℕ → List ℕ → ℕ → ℕ → ℕ → Type 0
+Turns leader parity old r j v = Recoloured (at leader j) (at parity j) (at old j) r v
+
+module _ (lines b r : ℕ) (leader parity old l : List ℕ) (f : Filled (Turns leader parity old r) lines b old l) where
+  pub turns-more : (w v : ℕ) → b < lines → Wide (at leader b) w → Recoloured w (at parity b) (at l b) r v
+      → Filled (Turns leader parity old r) lines (b + 1) old (set l b v)
+  unfolding Turns
+  turns-more w v h e q = filled-more f h (rw (← e .is, ← f .rest b (omega arith)) q)
+
+  pub turns-all : lines ≤ b → Rewritten lines r leader parity old l
+  unfolding Turns
+  turns-all h = record { bytes = filled-all (Turns leader parity old r) lines b old l f h; rest = filled-rest (Turns leader parity old r) lines b old l f }
+
+-- Relabelling
+
+unfoldable pub Moves : List ℕ → ℕ → ℕ → ℕ → ℕ → Type 0
+Moves leader low high j v = Moved (at leader j) low high v
+
+unfoldable pub Flips : List ℕ → List ℕ → ℕ → ℕ → ℕ → ℕ → Type 0
+Flips leader parity high turn j v = Flipped (at leader j) (at parity j) high turn v
+
+module _ (lines x low high : ℕ) (leader l : List ℕ) (f : Filled (Moves leader low high) lines x leader l) where
+  pub moves-more : (v : ℕ) → x < lines → Moved (at l x) low high v → Filled (Moves leader low high) lines (x + 1) leader (set l x v)
+  unfolding Moves
+  moves-more v h q = filled-more f h (rw (← f .rest x (omega arith)) q)
+
+  module _ (turn : ℕ) (parity p : List ℕ) (g : Filled (Flips leader parity high turn) lines x parity p) where
+    pub flips-more : (v : ℕ) → x < lines → Flipped (at l x) (at p x) high turn v
+        → Filled (Flips leader parity high turn) lines (x + 1) parity (set p x v)
+    unfolding Flips
+    flips-more v h q = filled-more g h (rw (← f .rest x (omega arith), ← g .rest x (omega arith)) q)
+
+    pub relabelled : lines ≤ x → Relabelled lines low high turn (at leader) (at parity) (at l) (at p)
+    unfolding Moves Flips
+    relabelled h =
+        record {
+          each = λ j o.
+              let a = f .done j (omega arith) in
+              let b = g .done j (omega arith) in
+              record { moved = λ e. (a .moved e, b .moved e); stays = λ n. (a .stays n, b .stays n) };
+        }
+
+-- The pivot
+
+pub record Seeking (lines b : ℕ) (leader choice : List ℕ) (r : ℕ) : Type 0 where
+  pub upto : b ≤ lines
+  pub sought : Sought lines b (at leader) (at choice) r
+
+module _ (lines : ℕ) (leader choice : List ℕ) where
+  pub seek-none : Seeking lines 0 leader choice lines
+  seek-none = record { upto = omega arith; sought = inr (refl, λ s h. absurd (omega arith)) }
+
+  module _ (b r w : ℕ) (s : Seeking lines b leader choice r) (h : b < lines) (e : Wide (at leader b) w) where
+    pub seek-here : w ≡ b → at choice b ≡ 0 → Seeking lines (b + 1) leader choice b
+    seek-here q z =
+        record { upto = omega arith; sought = rw add-one (inl (pivot-here (at leader) (at choice) b (sym (e .is) ∙ q) z)) }
+
+    pass : (at leader b ≡ b → at choice b ≡ 0 → ⊥) → Seeking lines (b + 1) leader choice r
+    pass o =
+        record {
+          upto = omega arith;
+          sought =
+              rw add-one
+              (cases (s .sought)
+              (λ p. inl (pivot-more (at leader) (at choice) b o p))
+              (λ p. inr (p .0, no-pivot-more (at leader) (at choice) b o (p .1))));
+        }
+
+    pub seek-right : (at choice b ≡ 0 → ⊥) → Seeking lines (b + 1) leader choice r
+    seek-right n = pass (λ q z. n z)
+
+    pub seek-led : (w ≡ b → ⊥) → Seeking lines (b + 1) leader choice r
+    seek-led n = pass (λ q z. n (e .is ∙ q))
+
+  pub seek-all : (b r : ℕ) → Seeking lines b leader choice r → lines ≤ b → Sought lines lines (at leader) (at choice) r
+  seek-all b r s h = let e : b ≡ lines = omega (arith, s .upto) in rw e at (s .sought)
+
+pub stuck : (lines r : ℕ) (leader choice : List ℕ) → Sought lines lines (at leader) (at choice) r → r ≡ lines → Stuck lines leader choice choice
+stuck lines r leader choice s e =
+    record { none = cases s (λ p. absurd (omega (arith, p .within))) (λ p. p .1); same = refl }
+
+pub advanced : (lines r : ℕ) (leader parity choice choice′ : List ℕ) → Rewritten lines r leader parity choice choice′
+    → Sought lines lines (at leader) (at choice) r → (r ≡ lines → ⊥) → Advanced lines leader parity choice choice′
+advanced lines r leader parity choice choice′ w s n =
+    record { pivot = r; highest = cases s (λ p. p) (λ p. absurd (n (p .0))); turned = w }
+
+-- The test of a choice
+
+module _ (p x y : ℕ) where
+  pub fit-tree : p ≡ 2 → eqb x 2 ≡ fitb p x y
+  unfolding fitb
+  fit-tree e = rw (eq-eqb p 2 e)
+
+  pub fit-high : (p ≡ 2 → ⊥) → 1 < x → false ≡ fitb p x y
+  unfolding fitb both
+  fit-high n h = rw (ne-eqb p 2 n, lt-leb x 1 h)
+
+  pub fit-side : (r : ℕ) → (p ≡ 2 → ⊥) → x ≤ 1 → r ≡ (y + x + p) % 2 → eqb r 0 ≡ fitb p x y
+  unfolding fitb both
+  fit-side r n h e = rw (e, ne-eqb p 2 n, le-leb x 1 h)
+
+pub record Fitting (lines b : ℕ) (leader parity choice : List ℕ) : Type 0 where
+  pub upto : b ≤ lines
+  pub fit : (j : ℕ) → j < b → fitb (at parity j) (at choice j) (at choice (at leader j)) ≡ true
+
+module _ (lines : ℕ) (leader parity choice : List ℕ) where
+  pub fitting-none : Fitting lines 0 leader parity choice
+  fitting-none = record { upto = omega arith; fit = λ j h. absurd (omega arith) }
+
+  module _ (b w : ℕ) (s : Fitting lines b leader parity choice) (h : b < lines) (e : Wide (at leader b) w) where
+    pub led-inside : Reading lines leader parity choice → w < length choice
+    led-inside q = omega (arith, q .inside b h, e .is, q .bytes)
+
+    module _ (r : Bool) (is : r ≡ fitb (at parity b) (at choice b) (at choice w)) where
+      here : r ≡ fitb (at parity b) (at choice b) (at choice (at leader b))
+      here = is ∙ ap (λ (z : ℕ). fitb (at parity b) (at choice b) (at choice z)) (e .is)
+
+      pub fitting-more : not r ≡ false → Fitting lines (b + 1) leader parity choice
+      fitting-more t =
+          record {
+            upto = omega arith;
+            fit = λ j o. cases (eq-or j b) (λ q. rw q (sym here ∙ not-false r t)) (λ d. let d′ : j ≢ b = d in s .fit j (omega arith));
+          }
+
+      pub misfit : not r ≡ true → false ≡ fitsb lines (at leader) (at parity) (at choice)
+      unfolding fitsb
+      misfit f =
+          cases (bool (all (λ j. fitb (at parity j) (at choice j) (at choice (at leader j))) lines))
+          (λ t. true-false (all-of _ lines t b h) (sym here ∙ not-true r f)) sym
+
+  pub fitting-all : (b : ℕ) → Fitting lines b leader parity choice → lines ≤ b → true ≡ fitsb lines (at leader) (at parity) (at choice)
+  unfolding fitsb
+  fitting-all b s h = sym (all-yes _ lines (λ j o. s .fit j (omega arith)))

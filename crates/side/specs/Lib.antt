@@ -1,0 +1,2 @@
+-- The two sides as numbers.
+pub mod Sides
