@@ -10,7 +10,7 @@ use Rattle.laws.specs.Sorting.{gather, sort}
 use Rattle.tree.specs.Tree.{Tree}
 use Rattle.tree.specs.Returns.{returns, low}
 use Rattle.fork.specs.Ends.{more, top}
-use Rattle.fork.specs.Fork.{left, right}
+use Rattle.side.specs.Sides.{left, right}
 
 -- The side of a line: a back line has its own; a tree line has that of its return with the highest end, or right where it has no return.
 unfoldable pub side-of : Tree → (ℕ → ℕ) → ℕ → ℕ
