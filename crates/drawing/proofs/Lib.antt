@@ -19,3 +19,4 @@ pub mod Starting
 pub mod Walking
 pub mod Grouping
 pub mod Spreading
+pub mod Tabulating

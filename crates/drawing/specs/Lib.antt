@@ -2,6 +2,7 @@
 pub mod Order
 pub mod Meshes
 pub mod Inside
+pub mod Nesting
 pub mod Chains
 pub mod Walks
 pub mod Laying

@@ -2,6 +2,7 @@
 mod chains;
 mod fans;
 mod meshes;
+mod nests;
 mod orders;
 mod turns;
 mod walks;
