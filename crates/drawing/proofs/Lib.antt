@@ -20,3 +20,5 @@ pub mod Walking
 pub mod Grouping
 pub mod Spreading
 pub mod Tabulating
+pub mod Nesting
+pub mod Stems
