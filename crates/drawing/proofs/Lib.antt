@@ -22,3 +22,4 @@ pub mod Spreading
 pub mod Tabulating
 pub mod Nesting
 pub mod Stems
+pub mod Ordering

@@ -6,3 +6,4 @@ pub mod Nesting
 pub mod Chains
 pub mod Walks
 pub mod Laying
+pub mod Ordering
