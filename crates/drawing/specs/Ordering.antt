@@ -2,12 +2,15 @@
 use mathlib.Core.List.{List}
 use mathlib.Core.Path.{_≡_}
 use Prim.Native.Nat.{ℕ, _+_, _*_, _≤_, _<_}
-use lib.ListN.{getD, length}
+use lib.ListN.{getD, length, take}
 use Rattle.tree.specs.Tree.{Tree, tree-of}
 use Rattle.tree.specs.Returns.{low}
 use Rattle.tree.specs.Words.{BackLine, Above}
 use Rattle.tree.proofs.Grown.{Grown}
 use Rattle.fork.specs.Ends.{high, top}
+use Rattle.drawing.specs.Order.{order-at, flat}
+use Rattle.drawing.specs.Meshes.{mesh-count, mesh-list, size-list}
+use Rattle.drawing.specs.Inside.{table}
 
 -- The tables of a finished search with every line in service and one root, vertex 0; for each line its source, its low and high, and its top; and a
 -- choice whose back lines have a side.
@@ -34,3 +37,14 @@ pub record Orderable (n m : ℕ) (ends kinds heights parents sources lows highs 
   pub highs-are : (k : ℕ) → k < m → getD highs k 0 ≡ high (tree-of n m ends kinds heights parents) k
   pub tops-are : (k : ℕ) → k < m → getD tops k 0 ≡ top (tree-of n m ends kinds heights parents) k
   pub bits : (b : ℕ) → BackLine (tree-of n m ends kinds heights parents) b → getD choice b 0 ≤ 1
+
+-- The whole drawing: the flat order, how many meshes there are, the mesh of each direction, and the size of each mesh.
+pub record Drawn (n m : ℕ) (ends kinds heights parents choice : List ℕ) (order : List ℕ) (count : ℕ) (mesh sizes : List ℕ) : Type 0 where
+  pub order-long : length order ≡ 4096
+  pub mesh-long : length mesh ≡ 4096
+  pub sizes-long : length sizes ≡ 4097
+  pub count-few : count ≤ 2 * m + 1
+  pub order-is : take (2 * m) order ≡ flat n (order-at (tree-of n m ends kinds heights parents) (table choice))
+  pub count-is : count ≡ mesh-count (tree-of n m ends kinds heights parents .live) m ends (order-at (tree-of n m ends kinds heights parents) (table choice))
+  pub mesh-is : take (2 * m) mesh ≡ mesh-list (tree-of n m ends kinds heights parents .live) m ends (order-at (tree-of n m ends kinds heights parents) (table choice))
+  pub sizes-are : take count sizes ≡ size-list (tree-of n m ends kinds heights parents .live) m ends (order-at (tree-of n m ends kinds heights parents) (table choice))

@@ -4,6 +4,10 @@ ghost use Prim.Native.Nat.{ℕ, _+_, _*_, _≤_, _<_};
 ghost use lib.ListN.{length, getD};
 ghost use Rattle.drawing.specs.Chains.{Chained, Appended};
 ghost use Rattle.drawing.specs.Laying.{Groupable, «groups-in», «item-in», Besides, «spread-in», Spreads, «first-in», Begins, «lines-at», Layable, «Laid-out»};
+ghost use Rattle.tree.specs.Tree.{«tree-of»};
+ghost use Rattle.drawing.specs.Order.{«order-at»};
+ghost use Rattle.drawing.specs.Inside.{table};
+ghost use Rattle.drawing.specs.Ordering.{Orderable};
 use crate::chains::Chains;
 use network::wide;
 
@@ -11,6 +15,54 @@ use network::wide;
 pub struct Order {
     pub order: [u16; 4096],
     pub starts: [u16; 513],
+}
+
+// The clockwise order that a choice gives, from the tables of a finished search and of the returns of each line.
+pub fn ordered(
+    vertices: usize,
+    lines: usize,
+    ends: &[u16],
+    kinds: &[u8],
+    heights: &[u16],
+    parents: &[u16],
+    sources: &[u16],
+    lows: &[u16],
+    highs: &[u16],
+    tops: &[u16],
+    choice: &[u8],
+) -> Order
+    requires { ⌜ Orderable vertices lines (now ends) (now kinds) (now heights) (now parents) (now sources) (now lows) (now highs) (now tops) (now choice) ⌝ }
+    ensures { λ r. ⌜ Laid-out vertices (order-at (tree-of vertices lines (now (ends .entry)) (now (kinds .entry)) (now (heights .entry)) (now (parents .entry)))
+        (table (now (choice .entry)))) (r .order) (r .starts) ⌝ }
+{
+    let ranks = crate::nests::ranked(lines, lows, highs);
+    let sides = crate::nests::sided(lines, kinds, tops, choice);
+    let sorted = crate::chains::sorted(lines, &ranks);
+    let fans = crate::fans::fanned(lines, &sorted, sources, &sides);
+    let heads = fans.heads;
+    let nexts = fans.nexts;
+    let mut path = [0u16; 512];
+    let mut found = [0u16; 2048];
+    let mut stems = [0u16; 2048];
+    let count = crate::walks::walk(
+        vertices,
+        lines,
+        0,
+        0,
+        ends,
+        kinds,
+        heights,
+        parents,
+        &heads,
+        &nexts,
+        &mut path,
+        &mut found,
+        &mut stems,
+    );
+    let groups = grouped(count, &found, &stems, &sides);
+    let firsts = groups.heads;
+    let after = groups.nexts;
+    laid(vertices, heights, parents, &heads, &nexts, &firsts, &after)
 }
 
 // For each line and each side, the lines found that come in from above it, those found later first.
