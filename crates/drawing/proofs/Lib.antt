@@ -23,3 +23,4 @@ pub mod Tabulating
 pub mod Nesting
 pub mod Stems
 pub mod Ordering
+pub mod Meshing
