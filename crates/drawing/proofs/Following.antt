@@ -128,6 +128,7 @@ module _ (n : ℕ) (nexts : List ℕ) (N : Numberable n nexts) where
       let e : d ≡ n = omega (arith, M .upto) in
       let D : Done n every (table nexts) none n c (table mesh) = rw e at (M .done) in
       record {
+        mesh-long = M .mesh-long;
         counted = D .counted;
         few = omega (arith, M .few);
         given = λ x g. D .given x (in-all n 0 0 nexts N x g) (omega (arith, lowest-under n every (table nexts) (N .turn) x));

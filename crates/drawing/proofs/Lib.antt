@@ -8,7 +8,7 @@ pub mod Linkable
 pub mod Leaving
 pub mod Discovered
 pub mod Clockwise
-pub mod Drawn
+pub mod Wholes
 pub mod Flat
 pub mod Mesh
 pub mod Hanging

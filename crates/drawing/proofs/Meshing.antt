@@ -23,13 +23,16 @@ use Rattle.laws.proofs.Agreeing.{turn-agree, number-agree, walks-agree}
 use Rattle.laws.proofs.Places.{from-snoc}
 use Rattle.network.specs.Network.{Network, network-of}
 use Rattle.network.specs.Inside.{Fit}
-use Rattle.drawing.specs.Order.{flat}
+use Rattle.tree.specs.Tree.{Tree, tree-of}
+use Rattle.drawing.specs.Order.{order-at, flat}
 use Rattle.drawing.specs.Meshes.{opposite, leave, follow, turned, step, either-way, mesh-of, mesh-count, borders, mesh-size, mesh-list, size-list}
 use Rattle.drawing.specs.Inside.{table, every, Whole, order-in, Laid, Linked, Numberable, Numbered, on-mesh, Meshed, Sized}
 use Rattle.drawing.specs.Laying.{Laid-out}
+use Rattle.drawing.specs.Ordering.{Orderable, Drawn}
 use Rattle.drawing.proofs.Directions.{opposite-below}
 use Rattle.drawing.proofs.Turning.{turn}
 use Rattle.drawing.proofs.Flat.{flat-next, flat-rises, flat-full}
+use Rattle.drawing.proofs.Ordering.{all-live, order-fits, order-whole}
 
 -- a list by its places
 take-map : (f : ℕ → ℕ) (k : ℕ) (l : List ℕ) → k ≤ length l → ((i : ℕ) → i < k → getD l i 0 ≡ f i) → take k l ≡ map f (upto k)
@@ -130,7 +133,7 @@ module _ {n m : ℕ} {ends : List ℕ} (fit : Fit (network-of n m ends)) {live :
           turn = turn-agree (2 * m) (either-way live) every (step ends list) (table nexts) T same-on follows;
         }
 
-    module _ {c : ℕ} {mesh : List ℕ} (N : Numbered (2 * m) nexts c mesh) (mesh-long : length mesh ≡ 4096) where
+    module _ {c : ℕ} {mesh : List ℕ} (N : Numbered (2 * m) nexts c mesh) where
       number-is : (d : ℕ) → d < 2 * m → getD mesh d 0 ≡ mesh-of live m ends list d
       unfolding mesh-of
       number-is d h = N .given d h ∙ sym (number-agree (2 * m) (either-way live) every (step ends list) (table nexts) T same-on follows d (a-way d h))
@@ -145,7 +148,7 @@ module _ {n m : ℕ} {ends : List ℕ} (fit : Fit (network-of n m ends)) {live :
       mesh-meshed =
           record {
             few = fit .few-lines;
-            mesh-long = omega (arith, mesh-long, fit .few-lines);
+            mesh-long = omega (arith, N .mesh-long, fit .few-lines);
             small = λ d h. omega (arith, number-is d h, below d h, walks-are, N .few, fit .few-lines);
           }
         where
@@ -162,7 +165,7 @@ module _ {n m : ℕ} {ends : List ℕ} (fit : Fit (network-of n m ends)) {live :
 
       pub meshes-listed : take (2 * m) mesh ≡ mesh-list live m ends list
       unfolding mesh-list
-      meshes-listed = take-map (mesh-of live m ends list) (2 * m) mesh (omega (arith, mesh-long, fit .few-lines)) number-is
+      meshes-listed = take-map (mesh-of live m ends list) (2 * m) mesh (omega (arith, N .mesh-long, fit .few-lines)) number-is
 
       module _ {sizes : List ℕ} (Z : Sized m mesh sizes) where
         size-is : (j : ℕ) → j < 4097 → getD sizes j 0 ≡ mesh-size live m ends list j
@@ -177,3 +180,45 @@ module _ {n m : ℕ} {ends : List ℕ} (fit : Fit (network-of n m ends)) {live :
         sizes-listed {count} e few =
             take-map (mesh-size live m ends list) count sizes (omega (arith, Z .sizes-long)) (λ j h. size-is j (omega arith))
             ∙ ap (λ (k : ℕ). map (mesh-size live m ends list) (upto k)) e
+
+-- The whole drawing
+
+module _ {n m : ℕ} {ends kinds heights parents sources lows highs tops choice : List ℕ} (P : Orderable n m ends kinds heights parents sources lows highs tops choice) where
+  abbrev S : Tree
+  S = tree-of n m ends kinds heights parents
+
+  module _ {order starts : List ℕ} (L : Laid-out n (order-at (tree-of n m ends kinds heights parents) (table choice)) order starts) where
+    pub drawn-laid : Laid (network-of n m ends) order starts
+    drawn-laid = mesh-laid (order-fits P) (all-live P) (order-whole P) L
+
+    module _ {nexts : List ℕ} (K : Linked (network-of n m ends) order starts n nexts) where
+      pub drawn-numberable : Numberable (2 * m) nexts
+      drawn-numberable = mesh-numberable (order-fits P) (all-live P) (order-whole P) L K
+
+      module _ {c : ℕ} {mesh : List ℕ} (N : Numbered (2 * m) nexts c mesh) where
+        pub drawn-meshed : Meshed m mesh
+        drawn-meshed = mesh-meshed (order-fits P) (all-live P) (order-whole P) L K N
+
+        module _ {sizes : List ℕ} (Z : Sized m mesh sizes) where
+          drawn : (count : ℕ) → count ≤ 2 * m + 1 → count ≡ mesh-count (tree-of n m ends kinds heights parents .live) m ends (order-at (tree-of n m ends kinds heights parents) (table choice))
+              → Drawn n m ends kinds heights parents choice order count mesh sizes
+          drawn count few e =
+              let F = order-fits P in
+              record {
+                order-long = L .order-long;
+                mesh-long = N .mesh-long;
+                sizes-long = Z .sizes-long;
+                count-few = few;
+                order-is =
+                    subst (λ (k : ℕ). take k order ≡ flat n (order-at S (table choice)))
+                    (flat-full (network-of n m ends) F (S .live) (order-at S (table choice)) (order-whole P) (all-live P)) (L .written);
+                count-is = e;
+                mesh-is = meshes-listed F (all-live P) (order-whole P) L K N;
+                sizes-are = sizes-listed F (all-live P) (order-whole P) L K N Z e (omega (arith, F .few-lines));
+              }
+
+          pub drawn-lone : m ≡ 0 → Drawn n m ends kinds heights parents choice order 1 mesh sizes
+          drawn-lone e = drawn 1 (omega arith) (mesh-none (order-fits P) (all-live P) (order-whole P) L K N e)
+
+          pub drawn-some : (m ≡ 0 → ⊥) → Drawn n m ends kinds heights parents choice order c mesh sizes
+          drawn-some d = drawn c (omega (arith, N .few)) (mesh-some (order-fits P) (all-live P) (order-whole P) L K N d)

@@ -42,7 +42,7 @@ use Rattle.drawing.proofs.Discovered.{Over, by-way, discovered-more, ov
 use Rattle.drawing.proofs.Hanging.{chained-list, chained-as}
 use Rattle.drawing.proofs.Nesting.{sorted-once, sorted-in, fan-is}
 use Rattle.drawing.proofs.Stems.{comes-from, comes-not}
-use Rattle.drawing.proofs.Drawn.{drawn-whole}
+use Rattle.drawing.proofs.Wholes.{drawn-whole}
 use Rattle.drawing.proofs.Flat.{flat-full}
 
 -- a list of different numbers below m is not longer than m
@@ -104,14 +104,34 @@ module _ {n m : ℕ} {ends kinds heights parents sources lows highs tops choice 
   X : Searched (tree-of n m ends kinds heights parents)
   X = searched n m ends kinds heights parents (P .grown)
 
-  all-live : (k : ℕ) → k < m → tree-of n m ends kinds heights parents .live k ≡ true
+  pub all-live : (k : ℕ) → k < m → tree-of n m ends kinds heights parents .live k ≡ true
   all-live k h = lt-ltb (getD kinds k 0) 2 (P .every k h)
 
   a-line : (k : ℕ) → k < m → Line (tree-of n m ends kinds heights parents) k
   a-line k h = record { below = h; yes = all-live k h }
 
+  pub order-whole : Whole (network-of n m ends) (tree-of n m ends kinds heights parents .live) (order-at (tree-of n m ends kinds heights parents) (table choice))
+  order-whole = drawn-whole n m ends kinds heights parents (P .grown) side
+
   low-small : (k : ℕ) → k < m → getD lows k 0 < 512
   low-small k h = omega (arith, P .lows-are k h, low-most S k, X .height-small (S .source k) (X .source-in k (a-line k h)), P .few-vertices)
+
+  pub order-fits : Fit (network-of n m ends)
+  order-fits =
+      record {
+        some-vertex = P .some-vertex;
+        few-vertices = P .few-vertices;
+        few-lines = P .few-lines;
+        ends-long = P .ends-long;
+        ends-in = λ i h. end-in i h;
+        apart = P .apart;
+      }
+    where
+      end-in : (i : ℕ) → i < 2 * m → getD ends i 0 < n
+      end-in i h =
+          cases (parity i)
+          (λ e. let q : 2 * (i / 2) ≡ i = omega arith in subst (λ (x : ℕ). getD ends x 0 < n) q (P .grown .first-in (i / 2) (omega arith)))
+          (λ e. let q : 2 * (i / 2) + 1 ≡ i = omega arith in subst (λ (x : ℕ). getD ends x 0 < n) q (P .grown .second-in (i / 2) (omega arith)))
 
   pub order-rankable : Rankable m lows highs
   order-rankable = record { few = P .few-lines; lows-long = P .lows-long; highs-long = P .highs-long; small = low-small }
@@ -341,25 +361,8 @@ module _ {n m : ℕ} {ends kinds heights parents sources lows highs tops choice 
                 (all-map (Leaves S v) (λ e. item-in groups after e ≡ beside S F side v e) (out-in heads nexts v) (λ e le. item-is v e h le) (out-fanned .leaves v h))
                 ∙ ap (gather (beside S F side v)) (out-is v (omega (arith, P .few-vertices))))
 
-            fits : Fit (network-of n m ends)
-            fits =
-                record {
-                  some-vertex = P .some-vertex;
-                  few-vertices = P .few-vertices;
-                  few-lines = P .few-lines;
-                  ends-long = P .ends-long;
-                  ends-in = λ i h. end-in i h;
-                  apart = P .apart;
-                }
-              where
-                end-in : (i : ℕ) → i < 2 * m → getD ends i 0 < n
-                end-in i h =
-                    cases (parity i)
-                    (λ e. let q : 2 * (i / 2) ≡ i = omega arith in subst (λ (x : ℕ). getD ends x 0 < n) q (P .grown .first-in (i / 2) (omega arith)))
-                    (λ e. let q : 2 * (i / 2) + 1 ≡ i = omega arith in subst (λ (x : ℕ). getD ends x 0 < n) q (P .grown .second-in (i / 2) (omega arith)))
-
             all-long : length (flat n (order-at (tree-of n m ends kinds heights parents) (table choice))) ≡ 2 * m
-            all-long = flat-full (network-of n m ends) fits (S .live) (order-at S side) (drawn-whole n m ends kinds heights parents (P .grown) side) all-live
+            all-long = flat-full (network-of n m ends) order-fits (S .live) (order-at S side) order-whole all-live
 
             pub order-layable : Layable n heights parents heads nexts groups after
             order-layable =

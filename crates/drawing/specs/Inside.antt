@@ -38,6 +38,7 @@ pub record Numberable (n : ℕ) (nexts : List ℕ) : Type 0 where
 
 -- Its walks are numbered.
 pub record Numbered (n : ℕ) (nexts : List ℕ) (c : ℕ) (mesh : List ℕ) : Type 0 where
+  pub mesh-long : length mesh ≡ 4096
   pub counted : c ≡ walks every (table nexts) n
   pub few : c ≤ n
   pub given : (x : ℕ) → x < n → getD mesh x 0 ≡ number every (table nexts) n x
