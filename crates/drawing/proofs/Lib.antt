@@ -24,3 +24,4 @@ pub mod Nesting
 pub mod Stems
 pub mod Ordering
 pub mod Meshing
+pub mod Once
