@@ -15,16 +15,11 @@ use Rattle.laws.proofs.Orbits.{In}
 use Rattle.laws.proofs.Places.{place, place-in, at-place, place-at, many-at, many-map, many-map-out, all-members, gather-next, gather-none, gather-one}
 use Rattle.network.specs.Network.{Network, touches}
 use Rattle.network.specs.Inside.{Fit}
+use Rattle.laws.proofs.Lengths.{gather-long, gather-rises}
 use Rattle.drawing.specs.Order.{flat}
 use Rattle.drawing.specs.Meshes.{leave, either-way}
 use Rattle.drawing.specs.Inside.{Whole, every}
 use Rattle.drawing.proofs.Directions.{leave-half, leave-one, leave-from, from-end, from-leaves}
-
--- as many as in lists of the same lengths
-gather-long : (f g : ℕ → List ℕ) (l : List ℕ) → ((x : ℕ) → length (f x) ≡ length (g x)) → length (gather f l) ≡ length (gather g l)
-unfolding gather
-gather-long f g [] h = refl
-gather-long f g (x ∷ l) h = omega (arith, length-append (f x) (gather f l), length-append (g x) (gather g l), h x, gather-long f g l h)
 
 -- a longer flat order begins with the shorter
 pub flat-next : (order : ℕ → List ℕ) (v : ℕ) → flat (suc v) order ≡ flat v order ++ order v

@@ -17,17 +17,9 @@ use Rattle.laws.proofs.Lists.{keep-nil, keep-yes, keep-no, keep-append}
 use Rattle.laws.proofs.Occurring.{many-append, many-reverse, many-keep-yes, many-keep-no}
 use Rattle.drawing.specs.Chains.{Chained}
 use Rattle.drawing.specs.Laying.{Groupable, group-of, groups-in}
-use Rattle.drawing.proofs.Lengths.{length-keep}
+use Rattle.laws.proofs.Lengths.{length-keep}
+use Rattle.laws.proofs.Keeping.{front-yes, front-no, not-kept}
 use Rattle.drawing.proofs.Hanging.{chained-hang, chained-none}
-
--- one more at the end of a list is one more at the front of what is kept of it, reversed
-front-yes : (p : ℕ → Bool) (l : List ℕ) (x : ℕ) → p x ≡ true → reverse (keep p (l ++ (x ∷ []))) ≡ x ∷ reverse (keep p l)
-front-yes p l x t =
-    ap reverse (keep-append p l (x ∷ []) ∙ ap (λ (r : List ℕ). keep p l ++ r) (keep-yes p x [] t ∙ ap (λ (r : List ℕ). x ∷ r) (keep-nil p)))
-    ∙ reverse-append (keep p l) (x ∷ [])
-
-front-no : (p : ℕ → Bool) (l : List ℕ) (x : ℕ) → p x ≡ false → reverse (keep p (l ++ (x ∷ []))) ≡ reverse (keep p l)
-front-no p l x t = ap reverse (keep-append p l (x ∷ []) ∙ ap (λ (r : List ℕ). keep p l ++ r) (keep-no p x [] t ∙ keep-nil p) ∙ append-nil (keep p l))
 
 pub record Grouping (count : ℕ) (found stems sides heads nexts : List ℕ) (i : ℕ) : Type 0 where
   pub upto : i ≤ count

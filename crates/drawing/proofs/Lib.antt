@@ -12,7 +12,6 @@ pub mod Wholes
 pub mod Flat
 pub mod Mesh
 pub mod Hanging
-pub mod Lengths
 pub mod Bucketing
 pub mod Fanning
 pub mod Starting

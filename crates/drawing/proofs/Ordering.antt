@@ -19,6 +19,7 @@ use Rattle.laws.proofs.Counting.{many-nil, count-all, count-le}
 use Rattle.laws.proofs.Lists.{All, all-map, all-many, all-keep, keep-nil, keep-same, from-all}
 use Rattle.laws.proofs.Places.{place, place-at, many-at}
 use Rattle.laws.proofs.Gathering.{none-of, keep-both, gather-same}
+use Rattle.laws.proofs.Lengths.{gather-upto, few-distinct}
 use Rattle.network.specs.Network.{network-of, first, second}
 use Rattle.network.specs.Inside.{Fit}
 use Rattle.tree.specs.Tree.{Tree, tree-of}
@@ -44,22 +45,6 @@ use Rattle.drawing.proofs.Nesting.{sorted-once, sorted-in, fan-is}
 use Rattle.drawing.proofs.Stems.{comes-from, comes-not}
 use Rattle.drawing.proofs.Wholes.{drawn-whole}
 use Rattle.drawing.proofs.Flat.{flat-full}
-
--- a list of different numbers below m is not longer than m
-few-distinct : (m : ℕ) (l : List ℕ) → All (λ x. x < m) l → ((x : ℕ) → many x l ≤ 1) → length l ≤ m
-few-distinct m l a o =
-    omega (
-      arith,
-      count-all (length l),
-      count-all m,
-      count-le (λ i x. getD l i 0 ≡ x) (λ i. true) (λ x. true) (length l) m
-          (λ i h t. (getD l i 0, all-many (λ x. x < m) (getD l i 0) l a (many-at 0 l i h), refl, refl))
-          (λ i j x h g e f. sym (place-at 0 l i h (o (getD l i 0))) ∙ ap (λ (y : ℕ). place y l) (e ∙ sym f) ∙ place-at 0 l j g (o (getD l j 0))),
-    )
-
--- the same lists gathered
-gather-upto : (f g : ℕ → List ℕ) (n v : ℕ) → v ≤ n → ((u : ℕ) → u < n → f u ≡ g u) → gather f (upto v) ≡ gather g (upto v)
-gather-upto f g n v h same = gather-same f g (upto v) (all-map (λ u. u < 0 + v) (λ u. f u ≡ g u) (upto v) (λ u k. same u (omega arith)) (from-all 0 v))
 
 -- fans that agree below n discover the same
 discovered-agree : (S : Tree) (X : Searched S) (out out′ : ℕ → List ℕ) → Fanned S out → ((v : ℕ) → v < S .vertices → out v ≡ out′ v) → (k v : ℕ) → v < S .vertices

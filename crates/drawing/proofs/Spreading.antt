@@ -19,7 +19,7 @@ use Rattle.laws.proofs.Gathering.{gather-nil, gather-cons}
 use Rattle.drawing.specs.Chains.{Chain, chain-from, Chained, Copyable, Appended}
 use Rattle.drawing.specs.Walks.{out-in}
 use Rattle.drawing.specs.Laying.{item-in, Besides, spread-in, Spreads, first-in, Begins, lines-at, Layable, Laid-out}
-use Rattle.drawing.proofs.Lengths.{from-nil, gather-rises, gather-length}
+use Rattle.laws.proofs.Lengths.{from-nil, gather-rises, gather-length}
 use Rattle.drawing.proofs.Hanging.{chain-list, chained-copy}
 
 -- Lists written one after the other

@@ -17,34 +17,14 @@ use Rattle.laws.proofs.Cases.{cases, bool, true-false, eq-or}
 use Rattle.laws.proofs.Tests.{both-yes, both-of}
 use Rattle.laws.proofs.Counting.{many-nil, many-here, many-other}
 use Rattle.laws.proofs.Lists.{All, all-map, all-many, keep-none, keep-same, keep-nil}
-use Rattle.laws.proofs.Gathering.{keep-gather, keep-both, gather-nil, gather-cons, gather-same}
+use Rattle.laws.proofs.Gathering.{keep-gather}
+use Rattle.laws.proofs.Keeping.{gather-only}
 use Rattle.tree.specs.Tree.{Tree}
 use Rattle.tree.specs.Words.{Line, TreeLine, BackLine, Above, Leaves}
 use Rattle.tree.proofs.Searched.{Searched}
 use Rattle.drawing.specs.Order.{discovered}
 use Rattle.drawing.specs.Walks.{Fanned, Stem}
 use Rattle.drawing.proofs.Discovered.{Over, by-way, discovered-more, discovered-same, over, once, one-stem, deeper}
-
--- where only y gathers anything, and y is there once, what is gathered is what y gathers
-gather-only : (f : ℕ → List ℕ) (y : ℕ) (l : List ℕ) → All (λ x. (x ≡ y → ⊥) → f x ≡ []) l → many y l ≡ 1 → gather f l ≡ f y
-gather-only f y l a o = go l a (omega arith) ∙ (rw (ne-eqb (many y l) 0 (λ z. omega arith)))
-  where
-    go : (l : List ℕ) → All (λ x. (x ≡ y → ⊥) → f x ≡ []) l → many y l ≤ 1 → gather f l ≡ cond (eqb (many y l) 0) [] (f y)
-    go [] a o = gather-nil f ∙ sym (ap (λ (b : Bool). cond b [] (f y)) (eq-eqb (many y []) 0 (many-nil y)))
-    go (x ∷ l) a o =
-        cases (eq-or x y)
-        (λ e.
-        let none : many y l ≡ 0 = omega (arith, many-here y x l e) in
-        gather-cons f x l
-        ∙ ap (λ (r : List ℕ). f x ++ r) (go l (a .1) (omega arith) ∙ ap (λ (b : Bool). cond b [] (f y)) (eq-eqb (many y l) 0 none))
-        ∙ append-nil (f x)
-        ∙ ap f e
-        ∙ sym (ap (λ (b : Bool). cond b [] (f y)) (ne-eqb (many y (x ∷ l)) 0 (λ z. omega (arith, many-here y x l e)))))
-        (λ d.
-        gather-cons f x l
-        ∙ ap (λ (r : List ℕ). r ++ gather f l) (a .0 d)
-        ∙ go l (a .1) (omega (arith, many-other y x l d))
-        ∙ ap (λ (k : ℕ). cond (eqb k 0) [] (f y)) (sym (many-other y x l d)))
 
 module _ (S : Tree) (X : Searched S) (out : ℕ → List ℕ) (O : Fanned S out) where
   -- where what is kept starts above w, nothing is lost by walking up from w only

@@ -14,3 +14,5 @@ pub mod Places
 pub mod Sorting
 pub mod Gathering
 pub mod Agreeing
+pub mod Lengths
+pub mod Keeping

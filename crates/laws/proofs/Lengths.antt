@@ -1,16 +1,19 @@
--- How long lists are that were counted up, kept, sorted or gathered.
+-- How long lists are that were counted up, kept, sorted or gathered; and that different numbers below m are not more than m.
 use mathlib.Core.Bool.{Bool, true, false}
 use mathlib.Core.List.{List, [], _∷_, _++_}
 use mathlib.Core.Path.{_≡_, refl, sym, _∙_, ap}
 use Prim.Native.Nat.{ℕ, zero, suc, _+_, _≤_, _<_}
 use native.Mathlib.Omega.{arith}
 use lib.Dec.{leb}
-use lib.ListN.{length, length-append}
+use lib.ListN.{length, getD, length-append}
+use Rattle.laws.specs.Counting.{many, count}
 use Rattle.laws.specs.Lists.{from, keep, upto}
 use Rattle.laws.specs.Sorting.{gather, insert, sort}
 use Rattle.laws.proofs.Cases.{cases, bool, lt-or}
-use Rattle.laws.proofs.Lists.{All, all-map, keep-nil, keep-yes, keep-no}
-use Rattle.laws.proofs.Places.{gather-next}
+use Rattle.laws.proofs.Counting.{count-all, count-le}
+use Rattle.laws.proofs.Lists.{All, all-map, all-many, keep-nil, keep-yes, keep-no, from-all}
+use Rattle.laws.proofs.Gathering.{gather-same}
+use Rattle.laws.proofs.Places.{place, place-at, many-at, gather-next}
 
 pub length-from : (a n : ℕ) → length (from a n) ≡ n
 unfolding from
@@ -58,3 +61,25 @@ gather-rises f v (suc n) h =
 
 pub gather-length : (f : ℕ → List ℕ) (v : ℕ) → length (gather f (upto (suc v))) ≡ length (gather f (upto v)) + length (f v)
 gather-length f v = ap length (gather-next f v) ∙ length-append (gather f (upto v)) (f v)
+
+-- as many as in lists of the same lengths
+pub gather-long : (f g : ℕ → List ℕ) (l : List ℕ) → ((x : ℕ) → length (f x) ≡ length (g x)) → length (gather f l) ≡ length (gather g l)
+unfolding gather
+gather-long f g [] h = refl
+gather-long f g (x ∷ l) h = omega (arith, length-append (f x) (gather f l), length-append (g x) (gather g l), h x, gather-long f g l h)
+
+-- the same lists gathered
+pub gather-upto : (f g : ℕ → List ℕ) (n v : ℕ) → v ≤ n → ((u : ℕ) → u < n → f u ≡ g u) → gather f (upto v) ≡ gather g (upto v)
+gather-upto f g n v h same = gather-same f g (upto v) (all-map (λ u. u < 0 + v) (λ u. f u ≡ g u) (upto v) (λ u k. same u (omega arith)) (from-all 0 v))
+
+-- a list of different numbers below m is not longer than m
+pub few-distinct : (m : ℕ) (l : List ℕ) → All (λ x. x < m) l → ((x : ℕ) → many x l ≤ 1) → length l ≤ m
+few-distinct m l a o =
+    omega (
+      arith,
+      count-all (length l),
+      count-all m,
+      count-le (λ i x. getD l i 0 ≡ x) (λ i. true) (λ x. true) (length l) m
+          (λ i h t. (getD l i 0, all-many (λ x. x < m) (getD l i 0) l a (many-at 0 l i h), refl, refl))
+          (λ i j x h g e f. sym (place-at 0 l i h (o (getD l i 0))) ∙ ap (λ (y : ℕ). place y l) (e ∙ sym f) ∙ place-at 0 l j g (o (getD l j 0))),
+    )
