@@ -10,12 +10,9 @@ use Rattle.laws.specs.Counting.{count}
 use Rattle.laws.proofs.Cases.{cases}
 use Rattle.laws.proofs.Counting.{count-some}
 use Rattle.laws.proofs.Tests.{both-of}
-use Rattle.network.specs.Network.{Network, Connected}
-use Rattle.network.specs.Inside.{Fit}
 use Rattle.tree.specs.Tree.{Tree}
 use Rattle.tree.specs.Returns.{backb}
 use Rattle.tree.proofs.Searched.{Searched}
-use Rattle.search.specs.Machine.{tree-in}
 use Rattle.fork.specs.Fork.{Legal, Aligned, Constraint}
 use Rattle.fork.specs.Link.{Link, turned}
 use Rattle.fork.proofs.Rule.{back-yes, back-of}
@@ -27,7 +24,7 @@ use Rattle.groups.specs.Constraints.{Constraints, Between, More, Keeps, BackLin
 use Rattle.groups.specs.Groups.{Tables, Grouped}
 use Rattle.groups.proofs.Groups.{conflict}
 use Rattle.choice.specs.Choice.{Drawable, Proper, Outdone}
-use Rattle.choice.specs.Inside.{Closed, Taken, Together, Tears}
+use Rattle.choice.specs.Inside.{Closed, Taken, Together, Unkept}
 use Rattle.choice.proofs.Tying.{link-back}
 
 -- a ring has a "different"
@@ -41,14 +38,11 @@ odd-of n line kind e =
     some : (m : ℕ) → m % 2 ≡ 1 → 0 < m
     some m z = omega arith
 
-module _ (net : Network) (X : Searched (tree-in net)) (t : Tables) (g : Together (tree-in net) t) where
-  abbrev S : Tree
-  S = tree-in net
-
+module _ (S : Tree) (X : Searched S) (t : Tables) (g : Together S t) where
   -- All links are obeyed
 
   module _ (all : (b d k : ℕ) → Link S b d k → Closed t b d k) where
-    pub proper-obeys : (c : ℕ → ℕ) → Proper net c → Obeys (net .lines) (backb S) (Taken S t) c
+    pub proper-obeys : (c : ℕ → ℕ) → Proper S c → Obeys (S .lines) (backb S) (Taken S t) c
     proper-obeys c p =
         record {
           tree = p .no-side;
@@ -56,7 +50,7 @@ module _ (net : Network) (X : Searched (tree-in net)) (t : Tables) (g : Together
           kept = λ b d k q. aligned-links S c (p .aligned) b d k (q .0);
         }
 
-    pub obeys-proper : (c : ℕ → ℕ) → Obeys (net .lines) (backb S) (Taken S t) c → Proper net c
+    pub obeys-proper : (c : ℕ → ℕ) → Obeys (S .lines) (backb S) (Taken S t) c → Proper S c
     obeys-proper c o =
         record {
           no-side = o .tree;
@@ -65,17 +59,17 @@ module _ (net : Network) (X : Searched (tree-in net)) (t : Tables) (g : Together
 
   -- A link tears
 
-  module _ (b d k : ℕ) (r : Tears S t b d k) where
+  module _ (b d k : ℕ) (r : Unkept S t b d k) where
     none-aligned : (side : ℕ → ℕ) → Aligned S side → ⊥
     none-aligned side a =
         let e = link-back S (r .link) in
-        conflict (net .lines) (backb S) (Taken S t) t g b d k (e .0) (e .1) (r .together) (r .odd) side
+        conflict (S .lines) (backb S) (Taken S t) t g b d k (e .0) (e .1) (r .together) (r .odd) side
         (λ x y z m. cases m (λ p. aligned-links S side a x y z (p .0)) (λ q. rw (q .0, q .1, q .2) (aligned-links S side a b d k (r .link))))
 
-    pub none-drawable : Drawable net → ⊥
+    pub none-drawable : Drawable S → ⊥
     none-drawable q = none-legal S X none-aligned (q .0) (q .1)
 
-    pub none-proper : (c : ℕ → ℕ) → Proper net c → ⊥
+    pub none-proper : (c : ℕ → ℕ) → Proper S c → ⊥
     none-proper c p = none-aligned c (p .aligned)
 
     -- a ring of links is one of constraints

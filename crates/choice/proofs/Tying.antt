@@ -23,7 +23,7 @@ use Rattle.groups.specs.Calls.{joined}
 use Rattle.groups.specs.declared.Joining.the-variants.{Agrees, Conflicts, Joins}
 use Rattle.groups.proofs.Groups.{None}
 use Rattle.groups.proofs.Answers.{after-agrees, after-joins, after-conflicts}
-use Rattle.choice.specs.Inside.{Closed, Taken, Together, Onward, ReturnsTied, ForksTied, Tears}
+use Rattle.choice.specs.Inside.{Closed, Taken, Together, Onward, ReturnsTied, ForksTied, Unkept}
 
 pub closed-turned : {t : Tables} {b d k : ℕ} → Closed t b d k → Closed t d b k
 closed-turned c = record { together = sym (c .together); even = omega (arith, c .even) }
@@ -73,7 +73,7 @@ module _ (S : Tree) where
     pub joins-taken : joined (S .lines) b d k t t′ Joins → Together S t′ × Onward S t t′ × Closed t′ b d k
     joins-taken j = let e = link-back l in took (after-joins (S .lines) (backb S) (Taken S t) b d k (e .0) (e .1) t t′ g small j)
 
-    pub conflicts-torn : joined (S .lines) b d k t t′ Conflicts → Together S t′ × Tears S t′ b d k
+    pub conflicts-torn : joined (S .lines) b d k t t′ Conflicts → Together S t′ × Unkept S t′ b d k
     conflicts-torn j = rw (j .2) (g, record { link = l; together = j .0; odd = j .1 })
 
   -- Onward

@@ -39,7 +39,7 @@ pub record Untouched (choice lines kinds : List ℕ) (r : Answer) (choice′ lin
 -- With 0, the number of back lines and the first aligned choice; no ring is written.
 pub record Chosen (net : Network) (choice lines kinds : List ℕ) (r : Answer) (choice′ lines′ kinds′ : List ℕ) : Type 0 where
   pub answers : r ≡ done (back-lines net) 0
-  pub first : First (net .lines) (Proper net) (at choice′)
+  pub first : First (net .lines) (Proper (tree-in net)) (at choice′)
   pub rest : Kept (net .lines) choice choice′
   pub same-lines : lines′ ≡ lines
   pub same-kinds : kinds′ ≡ kinds
@@ -58,7 +58,7 @@ pub record Ringed (net : Network) (choice lines kinds : List ℕ) (r : Answer) (
 abbrev pub FirstChoice : ℕ → List ℕ → List ℕ → List ℕ → List ℕ → Answer → List ℕ → List ℕ → List ℕ → Type 0
 FirstChoice n ends choice lines kinds r choice′ lines′ kinds′ =
     Checked n ends (cramped-first ends choice lines kinds) (Untouched choice lines kinds r choice′ lines′ kinds′)
-    (check (Drawable (network n ends))
+    (check (Drawable (tree-in (network n ends)))
     (Chosen (network n ends) choice lines kinds r choice′ lines′ kinds′)
     (Ringed (network n ends) choice lines kinds r choice′ lines′ kinds′))
 
@@ -75,13 +75,13 @@ pub record Unmoved (choice : List ℕ) (r : Answer) (choice′ : List ℕ) (k : 
 -- With 0, the number of back lines and the aligned choice that comes next.
 pub record Stepped (net : Network) (choice : List ℕ) (r : Answer) (choice′ : List ℕ) : Type 0 where
   pub answers : r ≡ done (back-lines net) 0
-  pub next : Next (net .lines) (Proper net) (at choice) (at choice′)
+  pub next : Next (net .lines) (Proper (tree-in net)) (at choice) (at choice′)
   pub rest : Kept (net .lines) choice choice′
 
 -- 8 exactly where the lent choice is not aligned or not written as it should be, 9 exactly where none comes later.
 abbrev pub NextChoice : ℕ → List ℕ → List ℕ → Answer → List ℕ → Type 0
 NextChoice n ends choice r choice′ =
     Checked n ends (cramped-next ends choice) (Unmoved choice r choice′)
-    (check (Proper (network n ends) (at choice))
-    (check (Outdone (network n ends) (at choice)) (Stepped (network n ends) choice r choice′) (Unmoved choice r choice′ 9))
+    (check (Proper (tree-in (network n ends)) (at choice))
+    (check (Outdone (tree-in (network n ends)) (at choice)) (Stepped (network n ends) choice r choice′) (Unmoved choice r choice′ 9))
     (Unmoved choice r choice′ 8))

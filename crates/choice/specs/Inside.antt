@@ -1,15 +1,24 @@
 -- What functions inside ask of each other. A reader of the calls' statements need not believe any of it.
+use mathlib.Core.Bool.{Bool, true, false}
+use mathlib.Core.List.{List}
 use mathlib.Core.Logic.{_⊎_}
 use mathlib.Core.Path.{_≡_}
-use Prim.Native.Nat.{ℕ, _+_, _%_, _<_}
+use Prim.Native.Nat.{ℕ, _+_, _%_, _≤_, _<_}
+use lib.ListN.{getD, length}
 use Rattle.tree.specs.Tree.{Tree}
-use Rattle.tree.specs.Returns.{backb}
-use Rattle.tree.specs.Words.{TreeLine}
-use Rattle.fork.specs.Ends.{Lowest, top, bottom}
+use Rattle.tree.specs.Returns.{backb, end, low}
+use Rattle.tree.specs.Words.{Line, TreeLine, BackLine, Return}
+use Rattle.fork.specs.Ends.{Lowest, high, top, bottom}
 use Rattle.fork.specs.Fork.{Fork}
 use Rattle.fork.specs.Link.{Link, Held, Overlap}
+use Rattle.fork.specs.Inside.{Table, Rivals, source}
 use Rattle.groups.specs.Constraints.{Constraints, Even}
-use Rattle.groups.specs.Groups.{Tables, Grouped}
+use Rattle.groups.specs.Groups.{Tables, tables, Grouped}
+use Rattle.groups.specs.Calls.{Room, joined}
+use Rattle.groups.specs.declared.Joining.the-variants.{Agrees, Conflicts, Joins}
+use Rattle.choice.specs.declared.Groups.{Groups}
+use Rattle.choice.specs.declared.Tie.{Tie}
+use Rattle.choice.specs.declared.Tie.the-variants.{Holds, Tears}
 
 -- b and d are in one group of the tables, with sides as a constraint of the kind k wants them.
 pub record Closed (t : Tables) (b d k : ℕ) : Type 0 where
@@ -37,7 +46,125 @@ pub record ForksTied (S : Tree) (t : Tables) (passed : ℕ → ℕ → Type 0) :
   pub tops : (f g : ℕ) → passed f g → TreeLine S f → Fork S f g → Overlap S f g → Closed t (top S f) (top S g) 1
 
 -- A link that the tables can't obey.
-pub record Tears (S : Tree) (t : Tables) (b d k : ℕ) : Type 0 where
+pub record Unkept (S : Tree) (t : Tables) (b d k : ℕ) : Type 0 where
   pub link : Link S b d k
   pub together : t .leader b ≡ t .leader d
   pub odd : (t .parity b + t .parity d + k) % 2 ≡ 1
+
+-- What trying one link came to.
+pub data Tried (lines b d k : ℕ) (t t′ : Tables) : Tie → Type 0 where
+  agreed : joined lines b d k t t′ Agrees → Tried lines b d k t t′ Holds
+  merged : joined lines b d k t t′ Joins → Tried lines b d k t t′ Holds
+  clashed : joined lines b d k t t′ Conflicts → Tried lines b d k t t′ (Tears b d k)
+
+-- What taking in links came to: they are obeyed with all that was, or one of them can't be.
+pub data Outcome (S : Tree) (t t′ : Tables) (done : Type 0) : Tie → Type 0 where
+  obeyed : Together S t′ → Onward S t t′ → done → Outcome S t t′ done Holds
+  unkept : {b d k : ℕ} → Together S t′ → Unkept S t′ b d k → Outcome S t t′ done (Tears b d k)
+
+-- Two lines may be tied.
+pub record Tieable (lines b d : ℕ) (leader parity from to : List ℕ) : Type 0 where
+  pub room : Room lines leader parity from to
+  pub first : b < lines
+  pub second : d < lines
+  pub leaders : (x : ℕ) → x < lines → getD leader x 0 < lines
+
+-- The links of tree line f with its return b, by the tables of what returns are like.
+abbrev pub TiedTop : ℕ → ℕ → ℕ → List ℕ → List ℕ → List ℕ → Tables → Tables → Tie → Type 0
+TiedTop lines f b stops rivals tops t t′ r =
+    (S : Tree) → S .lines ≡ lines → TreeLine S f → Return S f b → Table S end stops → Rivals S rivals → Table S top tops → Together S t
+    → Outcome S t t′ (Held S f b → (b ≡ top S f → ⊥) → Closed t′ b (top S f) 0) r
+
+abbrev pub TiedBottom : ℕ → ℕ → ℕ → List ℕ → List ℕ → List ℕ → Tables → Tables → Tie → Type 0
+TiedBottom lines f b stops lows bottoms t t′ r =
+    (S : Tree) → S .lines ≡ lines → TreeLine S f → Return S f b → Table S end stops → Table S low lows → Table S bottom bottoms → Together S t
+    → Outcome S t t′ (Lowest S f b → (b ≡ bottom S f → ⊥) → Closed t′ b (bottom S f) 0) r
+
+-- The link of the tops of two lines of a fork.
+abbrev pub TiedTops : ℕ → ℕ → ℕ → List ℕ → List ℕ → List ℕ → List ℕ → Tables → Tables → Tie → Type 0
+TiedTops lines f g sources lows highs tops t t′ r =
+    (S : Tree) → S .lines ≡ lines → TreeLine S f → Line S g → Table S source sources → Table S low lows → Table S high highs → Table S top tops → Together S t
+    → Outcome S t t′ (Fork S f g → Overlap S f g → Closed t′ (top S f) (top S g) 1) r
+
+-- What the ties go by: of each line the height at which it ends, its low, its rival, its top and its bottom.
+pub record Ranked (S : Tree) (stops lows rivals tops bottoms : List ℕ) : Type 0 where
+  pub each-stop : Table S end stops
+  pub each-low : Table S low lows
+  pub each-rival : Rivals S rivals
+  pub each-top : Table S top tops
+  pub each-bottom : Table S bottom bottoms
+
+-- Both links of tree line f with its return b are obeyed.
+pub record Bound (S : Tree) (t : Tables) (f b : ℕ) : Type 0 where
+  pub to-top : Held S f b → (b ≡ top S f → ⊥) → Closed t b (top S f) 0
+  pub to-bottom : Lowest S f b → (b ≡ bottom S f → ⊥) → Closed t b (bottom S f) 0
+
+-- b is a return of tree line f of some tree, whose tables are given.
+pub record Sheltered (lines f b : ℕ) (stops lows rivals tops bottoms leader parity from to : List ℕ) : Type 0 where
+  pub tree : Tree
+  pub same-lines : tree .lines ≡ lines
+  pub tree-line : TreeLine tree f
+  pub return : Return tree f b
+  pub ranked : Ranked tree stops lows rivals tops bottoms
+  pub groups : Together tree (tables leader parity from to)
+  pub room : Room lines leader parity from to
+
+abbrev pub TiedReturn : ℕ → ℕ → ℕ → List ℕ → List ℕ → List ℕ → List ℕ → List ℕ → Tables → Tables → Tie → Type 0
+TiedReturn lines f b stops lows rivals tops bottoms t t′ r =
+    (S : Tree) → S .lines ≡ lines → TreeLine S f → Return S f b → Ranked S stops lows rivals tops bottoms → Together S t → Outcome S t t′ (Bound S t′ f b) r
+
+-- The tables that the way down goes by.
+pub record Prepared (S : Tree) (sources stops lows rivals tops bottoms : List ℕ) : Type 0 where
+  pub each-source : Table S source sources
+  pub ranked : Ranked S stops lows rivals tops bottoms
+
+-- The returns of the back lines below b are tied.
+pub record Started (S : Tree) (b : ℕ) (leader parity from to : List ℕ) : Type 0 where
+  pub room : Room (S .lines) leader parity from to
+  pub back-line : BackLine S b
+  pub groups : Together S (tables leader parity from to)
+  pub tied : ReturnsTied S (tables leader parity from to) (λ f c. c < b)
+
+-- The tables that forks go by.
+pub record Crossed (S : Tree) (sources lows highs tops : List ℕ) : Type 0 where
+  pub each-source : Table S source sources
+  pub each-low : Table S low lows
+  pub each-high : Table S high highs
+  pub each-top : Table S top tops
+
+-- Tree line f and line g of some tree, whose tables are given.
+pub record Pairing (lines f g : ℕ) (sources lows highs tops leader parity from to : List ℕ) : Type 0 where
+  pub tree : Tree
+  pub same-lines : tree .lines ≡ lines
+  pub tree-line : TreeLine tree f
+  pub line : Line tree g
+  pub crossed : Crossed tree sources lows highs tops
+  pub groups : Together tree (tables leader parity from to)
+  pub room : Room lines leader parity from to
+
+-- The forks of the lines below f are tied.
+pub record Forking (S : Tree) (f : ℕ) (leader parity from to : List ℕ) : Type 0 where
+  pub room : Room (S .lines) leader parity from to
+  pub tree-line : TreeLine S f
+  pub groups : Together S (tables leader parity from to)
+  pub tied : ForksTied S (tables leader parity from to) (λ a g. a < f)
+
+-- The groups, with nothing said of what is tied.
+pub record Begun (S : Tree) (leader parity from to : List ℕ) : Type 0 where
+  pub room : Room (S .lines) leader parity from to
+  pub groups : Together S (tables leader parity from to)
+
+-- All links are taken in, or one can't be.
+pub data Sorted (S : Tree) (t : Tables) : Tie → Type 0 where
+  all-kept : Together S t → ((b d k : ℕ) → Link S b d k → Closed t b d k) → Sorted S t Holds
+  one-torn : {b d k : ℕ} → Together S t → Unkept S t b d k → Sorted S t (Tears b d k)
+
+-- The groups of a tree's back lines.
+pub record Grouping (S : Tree) (r : Groups) : Type 0 where
+  pub room : Room (S .lines) (r .leader) (r .parity) (r .from) (r .to)
+  pub sorted : Sorted S (tables (r .leader) (r .parity) (r .from) (r .to)) (r .tie)
+
+-- r says whether P holds.
+pub record Decides (P : Type 0) (r : Bool) : Type 0 where
+  pub holds : r ≡ true → P
+  pub fails : r ≡ false → P → ⊥

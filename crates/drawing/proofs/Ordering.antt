@@ -26,7 +26,7 @@ use Rattle.tree.specs.Tree.{Tree, tree-of}
 use Rattle.tree.specs.Returns.{end, returns, low}
 use Rattle.tree.specs.Words.{Line, TreeLine, BackLine, Above, Leaves, Return}
 use Rattle.tree.proofs.Searched.{Searched}
-use Rattle.tree.proofs.Grown.{Grown, searched}
+use Rattle.tree.proofs.Grown.{searched}
 use Rattle.tree.proofs.Returns.{in-returns, returned, low-most}
 use Rattle.fork.specs.Ends.{high, more, top, highestb}
 use Rattle.fork.proofs.Ends.{highest-of, top-first}

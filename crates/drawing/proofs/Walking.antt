@@ -20,7 +20,7 @@ use Rattle.network.specs.Network.{first, second}
 use Rattle.tree.specs.Tree.{Tree, tree-of}
 use Rattle.tree.specs.Words.{Line, TreeLine, BackLine, Above, Leaves}
 use Rattle.tree.proofs.Searched.{Searched}
-use Rattle.tree.proofs.Grown.{Grown, searched}
+use Rattle.tree.proofs.Grown.{searched}
 use Rattle.drawing.specs.Order.{discovered}
 use Rattle.drawing.specs.Inside.{none}
 use Rattle.drawing.specs.Chains.{Chain, chain-from, Appended}

@@ -6,7 +6,7 @@ use lib.ListN.{getD, length, take}
 use Rattle.tree.specs.Tree.{Tree, tree-of}
 use Rattle.tree.specs.Returns.{low}
 use Rattle.tree.specs.Words.{BackLine, Above}
-use Rattle.tree.proofs.Grown.{Grown}
+use Rattle.tree.specs.Grown.{Grown}
 use Rattle.fork.specs.Ends.{high, top}
 use Rattle.drawing.specs.Order.{order-at, flat}
 use Rattle.drawing.specs.Meshes.{mesh-count, mesh-list, size-list}

@@ -10,7 +10,7 @@ use Rattle.laws.proofs.Lists.{All}
 use Rattle.network.specs.Network.{first, second}
 use Rattle.tree.specs.Tree.{Tree, tree-of, lower, higher}
 use Rattle.tree.specs.Words.{TreeLine, BackLine, Above, Leaves}
-use Rattle.tree.proofs.Grown.{Grown}
+use Rattle.tree.specs.Grown.{Grown}
 use Rattle.drawing.specs.Order.{discovered}
 use Rattle.drawing.specs.Chains.{Chain, chain-from, Appended}
 

@@ -141,8 +141,8 @@ module _ (lines b d k : ℕ) (parity from to ring kinds : List ℕ) (s : Showing
                 chains = omega (arith, c .few, t .few);
                 parities = λ i h. omega (arith, c .inside i h, s .parities);
               };
-          rings = omega (arith, c .few, s .rings);
-          kindss = omega (arith, c .few, s .kindss);
+          ring-room = omega (arith, c .few, s .ring-room);
+          kind-room = omega (arith, c .few, s .kind-room);
         }
 
     pub ring-written : (ring′ kinds′ : List ℕ) → Written (at parity) (at line) n k ring kinds ring′ kinds′

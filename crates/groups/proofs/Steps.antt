@@ -111,25 +111,25 @@ module _ (lines b head : ℕ) (from to queue₀ via₀ place₀ : List ℕ) wher
       }
 
   module _ (n₀ e n : ℕ) (queue via place : List ℕ) (k : Scans lines b head e n from to queue₀ via₀ place₀ queue via place) where
-    pub looking : Scanning lines b head n₀ from to queue₀ via₀ place₀ → e < lines → Looking lines b e head n from to queue via place
+    pub looking : Scanning lines b head n₀ from to queue₀ via₀ place₀ → e < lines → Looking lines (at queue 0) e head n from to queue via place
     looking s h =
         record {
           room = room-kept lines from to queue₀ via₀ place₀ queue via place (s .room) (k .kept);
           below = h;
           ahead = k .state .pending;
           most = reached-few lines b (at from) (at to) n (reach queue via place) (k .state .spread .reached .queued);
-          state = k .state;
+          state = subst (λ (x : ℕ). Scanned lines x (at from) (at to) n head e (reach queue via place)) (sym (k .state .spread .reached .root)) (k .state);
         }
 
   module _ (e n n′ : ℕ) (queue via place queue′ via′ place′ : List ℕ) (k : Scans lines b head e n from to queue₀ via₀ place₀ queue via place) where
-    pub scans-more : Scanned lines b (at from) (at to) n′ head (e + 1) (reach queue′ via′ place′) → e < lines
+    pub scans-more : Scanned lines (at queue 0) (at from) (at to) n′ head (e + 1) (reach queue′ via′ place′) → e < lines
         → length queue′ ≡ length queue → length via′ ≡ length via → length place′ ≡ length place
         → Scans lines b head (e + 1) n′ from to queue₀ via₀ place₀ queue′ via′ place′
     scans-more s h a c d =
         record {
           upto = omega arith;
           kept = record { queues = a ∙ k .kept .queues; vias = c ∙ k .kept .vias; places = d ∙ k .kept .places };
-          state = s;
+          state = subst (λ (x : ℕ). Scanned lines x (at from) (at to) n′ head (e + 1) (reach queue′ via′ place′)) (k .state .spread .reached .root) s;
         }
 
   pub scans-done : (e n : ℕ) (queue via place : List ℕ) → Scans lines b head e n from to queue₀ via₀ place₀ queue via place → lines ≤ e
@@ -166,19 +166,24 @@ floods-start lines b from to queue via place f =
 
 module _ (lines b head n : ℕ) (from to queue₀ via₀ place₀ queue via place : List ℕ)
     (k : Floods lines b head n from to queue₀ via₀ place₀ queue via place) where
-  pub scanning : head < n → Scanning lines b head n from to queue via place
-  scanning h = record { room = k .room; pending = h; state = k .state }
+  pub scanning : head < n → Scanning lines (at queue 0) head n from to queue via place
+  scanning h =
+      record {
+        room = k .room;
+        pending = h;
+        state = subst (λ (x : ℕ). Spread lines x (at from) (at to) n head (reach queue via place)) (sym (k .state .reached .root)) (k .state);
+      }
 
-  pub floods-more : (n′ : ℕ) (queue′ via′ place′ : List ℕ) → Spread lines b (at from) (at to) n′ (head + 1) (reach queue′ via′ place′)
+  pub floods-more : (n′ : ℕ) (queue′ via′ place′ : List ℕ) → Spread lines (at queue 0) (at from) (at to) n′ (head + 1) (reach queue′ via′ place′)
       → length queue′ ≡ length queue → length via′ ≡ length via → length place′ ≡ length place
       → Floods lines b (head + 1) n′ from to queue₀ via₀ place₀ queue′ via′ place′
   floods-more n′ queue′ via′ place′ s x y z =
       record {
-        most = reached-few lines b (at from) (at to) n′ (reach queue′ via′ place′) (s .reached .queued);
+        most = reached-few lines (at queue 0) (at from) (at to) n′ (reach queue′ via′ place′) (s .reached .queued);
         ahead = s .ahead;
         room = room-kept lines from to queue via place queue′ via′ place′ (k .room) (record { queues = x; vias = y; places = z });
         kept = record { queues = x ∙ k .kept .queues; vias = y ∙ k .kept .vias; places = z ∙ k .kept .places };
-        state = s;
+        state = subst (λ (x : ℕ). Spread lines x (at from) (at to) n′ (head + 1) (reach queue′ via′ place′)) (k .state .reached .root) s;
       }
 
   pub floods-done : n ≤ head → Spread lines b (at from) (at to) n n (reach queue via place)

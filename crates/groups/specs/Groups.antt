@@ -73,8 +73,8 @@ pub record Merged (lines low high turn b d : ℕ) (t t′ : Tables) : Type 0 whe
   pub from : Put (t .from) high b (t′ .from)
   pub to : Put (t .to) high d (t′ .to)
 
--- The first choice that a group's lines have after the group of r is turned, those of lower leaders are kept, those of higher leaders are set anew:
--- of a line with the leader l, the parity y and the byte x.
+-- The new byte z of a line with the leader l, the parity y and the byte x, where the group of r is turned: the groups of lower leaders are kept, and
+-- those of higher leaders begin anew.
 pub record Recoloured (l y x r z : ℕ) : Type 0 where
   pub keep : l < r → z ≡ x
   pub turn : l ≡ r → z ≡ 1 - x

@@ -193,8 +193,8 @@ pub record Showing (lines b d k : ℕ) (parity from to ring kinds : List ℕ) : 
   pub parities : lines ≤ length parity
   pub froms : lines ≤ length from
   pub tos : lines ≤ length to
-  pub rings : lines ≤ length ring
-  pub kindss : lines ≤ length kinds
+  pub ring-room : lines ≤ length ring
+  pub kind-room : lines ≤ length kinds
 
 -- The ring's lines and its kinds as written, and what lies past them as it was.
 pub record TracedLines (line : ℕ → ℕ) (n m : ℕ) (up : Bool) (ring ring′ : List ℕ) : Type 0 where
@@ -208,8 +208,8 @@ pub record TracedKinds (parity line : ℕ → ℕ) (n m : ℕ) (up : Bool) (k : 
 -- What writing the ring asks, and what it does.
 pub record Writing (n k : ℕ) (parity line ring kinds : List ℕ) : Type 0 where
   pub tracing : Tracing n k parity line
-  pub rings : n ≤ length ring
-  pub kindss : n ≤ length kinds
+  pub ring-room : n ≤ length ring
+  pub kind-room : n ≤ length kinds
 
 pub record Written (parity line : ℕ → ℕ) (n k : ℕ) (ring kinds ring′ kinds′ : List ℕ) : Type 0 where
   pub from-place : ℕ

@@ -72,10 +72,9 @@ fn far_end(e: usize, head: usize, from: &[u16], to: &[u16], queue: &[u16]) -> us
     beyond(wide(from[e]), wide(to[e]), wide(queue[head]))
 }
 
-// Looks from the line at `head` along the step e, and puts the line beyond it into the queue if it is new. (The flood began at `root`.)
+// Looks from the line at `head` along the step e, and puts the line beyond it into the queue if it is new.
 fn look(
     lines: usize,
-    root: usize,
     e: usize,
     head: usize,
     n: usize,
@@ -85,8 +84,8 @@ fn look(
     via: &mut [u16],
     place: &mut [u16],
 ) -> usize
-    requires { ⌜ Looking lines root e head n (now from) (now to) (now queue) (now via) (now place) ⌝ }
-    ensures { λ r. ⌜ Scanned lines root (at (now (from .entry))) (at (now (to .entry))) r head (e + 1)
+    requires { ⌜ Looking lines (at (now queue) 0) e head n (now from) (now to) (now queue) (now via) (now place) ⌝ }
+    ensures { λ r. ⌜ Scanned lines (at (now (queue .entry)) 0) (at (now (from .entry))) (at (now (to .entry))) r head (e + 1)
         (reach (now (queue .exit)) (now (via .exit)) (now (place .exit))) ⌝ }
 {
     let v = far_end(e, head, from, to, queue);
@@ -103,7 +102,6 @@ fn look(
 // Looks from the line at `head` along every step.
 fn scan(
     lines: usize,
-    root: usize,
     head: usize,
     n: usize,
     from: &[u16],
@@ -112,14 +110,14 @@ fn scan(
     via: &mut [u16],
     place: &mut [u16],
 ) -> usize
-    requires { ⌜ Scanning lines root head n (now from) (now to) (now queue) (now via) (now place) ⌝ }
-    ensures { λ r. ⌜ Spread lines root (at (now (from .entry))) (at (now (to .entry))) r (head + 1)
+    requires { ⌜ Scanning lines (at (now queue) 0) head n (now from) (now to) (now queue) (now via) (now place) ⌝ }
+    ensures { λ r. ⌜ Spread lines (at (now (queue .entry)) 0) (at (now (from .entry))) (at (now (to .entry))) r (head + 1)
         (reach (now (queue .exit)) (now (via .exit)) (now (place .exit))) ⌝ }
 {
     let mut k = n;
     let mut e = 0;
     while e < lines {
-        k = look(lines, root, e, head, k, from, to, queue, via, place);
+        k = look(lines, e, head, k, from, to, queue, via, place);
         e += 1;
     }
     k
@@ -144,7 +142,7 @@ fn flood(
     let mut n = 1;
     let mut head = 0;
     while head < n {
-        n = scan(lines, root, head, n, from, to, queue, via, place);
+        n = scan(lines, head, n, from, to, queue, via, place);
         head += 1;
     }
     n

@@ -16,3 +16,4 @@ pub mod Gathering
 pub mod Agreeing
 pub mod Lengths
 pub mod Keeping
+pub mod Eachwise

@@ -19,7 +19,8 @@ use Rattle.network.proofs.Lines.{touches-first, touches-of, other-first, other-
 use Rattle.tree.specs.Tree.{back, higher, lower, climb}
 use Rattle.tree.specs.Words.{Line}
 use Rattle.tree.proofs.Searched.{Searched}
-use Rattle.tree.proofs.Grown.{Grown, searched}
+use Rattle.tree.specs.Grown.{Grown}
+use Rattle.tree.proofs.Grown.{searched}
 use Rattle.search.specs.Machine.{State, finished, tree-in}
 use Rattle.search.specs.Orient.{back-lines}
 use Rattle.search.proofs.Steps.{Found}

@@ -2,3 +2,4 @@
 pub mod Tree
 pub mod Returns
 pub mod Words
+pub mod Grown

@@ -2,14 +2,15 @@
 use Prim.Native.Nat.{_-_}
 use Rattle.groups.proofs.Steps.{Scans, scans-start, looking, scans-more, scans-done}
 use borrow.Author.Needs.{needs}
+use Rattle.groups.specs.Order.{at}
 use Rattle.groups.proofs.ring.scan.Statement.{statement}
 use Rattle.groups.proofs.ring.scan.Tie as tie
 
 abbrev Inv-loop : tie.InvT-loop
-Inv-loop lines root head n from to queue₀ via₀ place₀ k₀ e₀ queue via place k e = Scans lines root head e k from to queue₀ via₀ place₀ queue via place
+Inv-loop lines head n from to queue₀ via₀ place₀ k₀ e₀ queue via place k e = Scans lines (at queue₀ 0) head e k from to queue₀ via₀ place₀ queue via place
 
 abbrev μ-loop : tie.MeasureT-loop
-μ-loop lines root head n from to queue₀ via₀ place₀ k₀ e₀ queue via place k e = lines - e
+μ-loop lines head n from to queue₀ via₀ place₀ k₀ e₀ queue via place k e = lines - e
 
 loop-holds : tie.Need-loop-holds Inv-loop μ-loop
 loop-holds c = search scans-start

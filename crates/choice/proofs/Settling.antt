@@ -1,0 +1,126 @@
+-- From single links to the groups of a tree, and from the groups to the question whether a choice is aligned.
+use mathlib.Core.Bool.{Bool, true, false, not}
+use mathlib.Core.List.{List}
+use mathlib.Core.Logic.{_⊎_, inl, inr, _≢_}
+use mathlib.Core.Path.{_≡_, refl, sym, ap, _∙_, subst}
+use Prim.Native.Nat.{ℕ, _+_, _≤_, _<_}
+use native.Mathlib.Omega.{arith}
+use lib.ListN.{getD, length}
+use borrow.Author.Tests.{eq-eqb, ne-eqb, eqb-true, eqb-false, lt-ltb, not-true}
+use Rattle.laws.proofs.Cases.{cases, true-false, bool}
+use Rattle.laws.proofs.Tests.{both-of, both-yes}
+use Rattle.tree.specs.Tree.{Tree, tree-of}
+use Rattle.tree.specs.Returns.{backb}
+use Rattle.tree.proofs.Searched.{Searched}
+use Rattle.tree.proofs.Grown.{searched}
+use Rattle.fork.specs.Link.{Link}
+use Rattle.fork.specs.Inside.{Known, Tabled}
+use Rattle.fork.specs.declared.Forks.{Forks}
+use Rattle.groups.specs.Order.{at}
+use Rattle.groups.specs.Groups.{Tables, tables, fitsb}
+use Rattle.groups.specs.Calls.{Room, Started, Reading}
+use Rattle.groups.proofs.Groups.{None}
+use Rattle.groups.proofs.Answers.{grouped-start, reading}
+use Rattle.groups.proofs.Choosing.{fits-obeys, obeys-fits}
+use Rattle.choice.specs.Choice.{Proper}
+use Rattle.choice.specs.Inside.{Closed, Taken, Together, Onward, ReturnsTied, ForksTied, Outcome, obeyed, unkept, Ranked, Prepared, Crossed, Begun, Sorted, all-kept, one-torn, Grouping, Decides}
+use Rattle.choice.specs.declared.Groups.{Groups}
+use Rattle.choice.specs.declared.Tie.{Tie}
+use Rattle.choice.specs.declared.Tie.the-variants.{Holds, Tears}
+use Rattle.choice.proofs.Tying.{onward-then, returns-onward, none-together, links-closed}
+use Rattle.choice.proofs.Proper.{proper-obeys, obeys-proper, none-proper}
+
+-- First the ways, then the forks
+
+pub all-begun : {S : Tree} {t : Tables} {A : Type 0} (leader parity from to : List ℕ) (q : Tie) → Outcome S t (tables leader parity from to) A q → q ≡ Holds → Room (S .lines) leader parity from to
+    → Begun S leader parity from to
+all-begun {S} {t} {A} leader parity from to q o e room = go (rw e at o)
+  where
+    go : Outcome S t (tables leader parity from to) A Holds → Begun S leader parity from to
+    go (obeyed g k a) = record { room = room; groups = g }
+
+pub all-torn : {S : Tree} {t u : Tables} {A B : Type 0} (q : Tie) {x y z : ℕ} → Outcome S t u A q → q ≡ Tears x y z → Outcome S t u B (Tears x y z)
+all-torn {S} {t} {u} {A} {B} q {x} {y} {z} o e = go (rw e at o)
+  where
+    go : Outcome S t u A (Tears x y z) → Outcome S t u B (Tears x y z)
+    go (unkept g k) = unkept g k
+
+pub all-tied : {S : Tree} {t u v : Tables} (q r : Tie) (P : ℕ → ℕ → Type 0) (Q : ℕ → ℕ → Type 0) → Outcome S t u (ReturnsTied S u P) q → q ≡ Holds → Outcome S u v (ForksTied S v Q) r
+    → Outcome S t v (ReturnsTied S v P × ForksTied S v Q) r
+all-tied {S} {t} {u} {v} q r P Q o e k = go (rw e at o) k
+  where
+    go : {w : Tie} → Outcome S t u (ReturnsTied S u P) Holds → Outcome S u v (ForksTied S v Q) w → Outcome S t v (ReturnsTied S v P × ForksTied S v Q) w
+    go (obeyed g o′ a) (obeyed h p b) = obeyed h (onward-then S t u v o′ p) (returns-onward S u v P p a, b)
+    go (obeyed g o′ a) (unkept h p) = unkept h p
+
+-- The tables that are handed on
+
+module _ {S : Tree} {r : Forks} (t : Tabled S r) where
+  pub tabled-prepared : Prepared S (r .sources) (r .ends) (r .lows) (r .rivals) (r .tops) (r .bottoms)
+  tabled-prepared =
+      record {
+        each-source = t .sources;
+        ranked = record { each-stop = t .ends; each-low = t .lows; each-rival = t .rivals; each-top = t .tops; each-bottom = t .bottoms };
+      }
+
+  pub tabled-crossed : Crossed S (r .sources) (r .lows) (r .highs) (r .tops)
+  tabled-crossed = record { each-source = t .sources; each-low = t .lows; each-high = t .highs; each-top = t .tops }
+
+module _ {n m : ℕ} {ends kinds heights parents : List ℕ} (known : Known n m ends kinds heights parents) where
+  abbrev S : Tree
+  S = tree-of n m ends kinds heights parents
+
+  X : Searched (tree-of n m ends kinds heights parents)
+  X = searched n m ends kinds heights parents (known .grown)
+
+  back-one : (b : ℕ) → b < m → backb S b ≡ true → getD kinds b 0 ≡ 1
+  back-one b h e =
+      let q = both-of e in
+      let z : getD kinds b 0 ≢ 0 = eqb-false _ _ (not-true _ (q .1)) in
+      omega (arith, known .every b h)
+
+  one-back : (b : ℕ) → b < m → backb S b ≡ false → getD kinds b 0 ≡ 1 → ⊥
+  one-back b h e z = true-false (both-yes (lt-ltb _ _ (known .every b h)) (ap not (ne-eqb _ _ (λ (y : getD kinds b 0 ≡ 0). omega arith)))) e
+
+  pub start-begun : (leader parity from to : List ℕ) → Started m kinds leader parity from to → Room m leader parity from to → Begun S leader parity from to
+  start-begun leader parity from to s room =
+      record { room = room; groups = none-together S (tables leader parity from to) (grouped-start m (backb S) kinds leader parity from to back-one one-back s) }
+
+  pub outcome-grouping : (tie : Tie) (leader parity from to : List ℕ) {t : Tables} → Room m leader parity from to
+      → Outcome S t (tables leader parity from to) (ReturnsTied S (tables leader parity from to) (λ f c. c < m) × ForksTied S (tables leader parity from to) (λ a g. a < m)) tie
+      → Grouping S (record { tie = tie; leader = leader; parity = parity; from = from; to = to })
+  outcome-grouping tie leader parity from to room o = record { room = room; sorted = go o }
+    where
+      go : {w : Tie} {t : Tables} → Outcome S t (tables leader parity from to) (ReturnsTied S (tables leader parity from to) (λ f c. c < m) × ForksTied S (tables leader parity from to) (λ a g. a < m)) w
+          → Sorted S (tables leader parity from to) w
+      go (obeyed g k a) =
+          all-kept g (λ b d z l. links-closed S X (tables leader parity from to) (a .0) (record { tops = λ f c p. a .1 .tops f c (p .0) }) l)
+      go (unkept g u) = one-torn g u
+
+  -- The question
+
+  module _ (r : Groups) (g : Grouping S r) where
+    pub grouping-reading : (choice : List ℕ) → r .tie ≡ Holds → m ≤ length choice → Reading m (r .leader) (r .parity) choice
+    grouping-reading choice e h = go (rw e at (g .sorted))
+      where
+        go : Sorted S (tables (r .leader) (r .parity) (r .from) (r .to)) Holds → Reading m (r .leader) (r .parity) choice
+        go (all-kept q a) =
+            reading m (backb S) (Taken S (tables (r .leader) (r .parity) (r .from) (r .to))) (r .leader) (r .parity) (r .from) (r .to) q choice (g .room) h
+
+    pub aligned-fits : (choice : List ℕ) → r .tie ≡ Holds → (b : Bool) → b ≡ fitsb m (at (r .leader)) (at (r .parity)) (at choice) → Decides (Proper S (at choice)) b
+    aligned-fits choice e b is = go (rw e at (g .sorted))
+      where
+        go : Sorted S (tables (r .leader) (r .parity) (r .from) (r .to)) Holds → Decides (Proper S (at choice)) b
+        go (all-kept q a) =
+            let t = tables (r .leader) (r .parity) (r .from) (r .to) in
+            record {
+              holds = λ y. obeys-proper S X t q a (at choice) (fits-obeys m (backb S) (Taken S t) t q (at choice) (sym is ∙ y));
+              fails = λ y p. true-false (obeys-fits m (backb S) (Taken S t) t q (at choice) (proper-obeys S X t q a (at choice) p)) (sym is ∙ y);
+            }
+
+    pub aligned-none : (choice : List ℕ) {x y z : ℕ} → r .tie ≡ Tears x y z → Decides (Proper S (at choice)) false
+    aligned-none choice {x} {y} {z} e = go (rw e at (g .sorted))
+      where
+        go : Sorted S (tables (r .leader) (r .parity) (r .from) (r .to)) (Tears x y z) → Decides (Proper S (at choice)) false
+        go (one-torn q u) =
+            record { holds = λ w. true-false w refl; fails = λ w p. none-proper S X (tables (r .leader) (r .parity) (r .from) (r .to)) q _ _ _ u (at choice) p }

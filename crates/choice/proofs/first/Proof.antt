@@ -1,0 +1,140 @@
+-- One lemma for each place where `first` returns.
+use native.Mathlib.Omega.{arith}
+use Rattle.choice.proofs.Answering.{explored-known, explored-fits, first-2, first-odd, first-few-bytes, first-few-lines, first-few-kinds, first-refused, first-chosen, first-showing, first-ringed}
+use mathlib.Core.Path.{refl}
+use borrow.Author.Needs.{needs}
+use Rattle.choice.proofs.first.Statement.{statement}
+use Rattle.choice.proofs.first.Tie as tie
+
+is-oversize-requires : tie.Need-is-oversize-requires
+is-oversize-requires c κs = search needs
+
+refused-requires : tie.Need-refused-requires
+refused-requires c κs = search needs
+
+returns : tie.Need-returns
+returns c = first-2 _ _ _ _ _ _ (c .before .before .is-oversize .ensures) (c .before .if1 .taken) _ (c .refused .ensures)
+
+is-odd-requires : tie.Need-is-odd-requires
+is-odd-requires c κs = search needs
+
+refused-requires-2 : tie.Need-refused-requires-2
+refused-requires-2 c κs = search needs
+
+returns-2 : tie.Need-returns-2
+returns-2 c = first-odd _ _ _ _ _ _ (c .before .before .before .before .is-oversize .ensures) (c .before .before .before .if1 .left) _ (c .before .before .is-odd .ensures) (c .before .if2 .taken) _ (c .refused2 .ensures)
+
+refused-requires-3 : tie.Need-refused-requires-3
+refused-requires-3 c κs = search needs
+
+returns-3 : tie.Need-returns-3
+returns-3 c = first-few-bytes _ _ _ _ _ _ (c .before .before .before .before .before .is-oversize .ensures) (c .before .before .before .before .if1 .left) _ (c .before .before .before .is-odd .ensures) (c .before .if3 .taken) _ (c .refused3 .ensures)
+
+refused-requires-4 : tie.Need-refused-requires-4
+refused-requires-4 c κs = search needs
+
+returns-4 : tie.Need-returns-4
+returns-4 c = first-few-lines _ _ _ _ _ _ (c .before .before .before .before .before .before .is-oversize .ensures) (c .before .before .before .before .before .if1 .left) _ (c .before .before .before .before .is-odd .ensures) (c .before .if4 .taken) _ (c .refused4 .ensures)
+
+refused-requires-5 : tie.Need-refused-requires-5
+refused-requires-5 c κs = search needs
+
+returns-5 : tie.Need-returns-5
+returns-5 c = first-few-kinds _ _ _ _ _ _ (c .before .before .before .before .before .before .before .is-oversize .ensures) (c .before .before .before .before .before .before .if1 .left) _ (c .before .before .before .before .before .is-odd .ensures) (c .before .if5 .taken) _ (c .refused5 .ensures)
+
+explore-requires : tie.Need-explore-requires
+explore-requires c κs = search needs
+
+refused-requires-6 : tie.Need-refused-requires-6
+refused-requires-6 c κs = search needs
+
+returns-6 : tie.Need-returns-6
+returns-6 c = first-refused _ _ _ _ _ _ (c .before .before .before .before .before .before .before .before .before .is-oversize .ensures) (c .before .before .before .before .before .before .before .before .if1 .left) _ (c .before .before .before .before .before .before .before .is-odd .ensures) (c .before .before .before .before .before .before .if2 .left) (c .before .before .before .before .before .if3 .left) (c .before .before .before .before .if4 .left) (c .before .before .before .if5 .left) _ (c .before .before .explore .ensures) (c .before .if6 .taken) _ (c .refused6 .ensures)
+
+grouped-requires : tie.Need-grouped-requires
+grouped-requires c κs = explored-known _ _ _ (c .before .before .before .before .before .before .before .explore .ensures) (c .before .before .before .before .before .before .if6 .left)
+
+enum-told : tie.Need-enum-told
+enum-told c = search needs
+
+slice-aggregate-first : tie.Need-slice-aggregate-first
+slice-aggregate-first c = search needs
+
+first-requires : tie.Need-first-requires
+first-requires c κs = search needs
+
+add-done : tie.Need-add-done
+add-done c = search needs
+
+sub-done : tie.Need-sub-done
+sub-done c = explored-fits _ _ _ (c .before .before .before .before .before .before .before .before .before .before .before .before .before .before .before .before .before .before .explore .ensures) (c .before .before .before .before .before .before .before .before .before .before .before .before .before .before .before .before .before .if6 .left)
+
+done-requires : tie.Need-done-requires
+done-requires c κs = search needs
+
+enum-known-tie : tie.Need-enum-known-tie
+enum-known-tie c = search needs
+
+slice-aggregate-show : tie.Need-slice-aggregate-show
+slice-aggregate-show c = search needs
+
+slice-aggregate-show-2 : tie.Need-slice-aggregate-show-2
+slice-aggregate-show-2 c = search needs
+
+slice-aggregate-show-3 : tie.Need-slice-aggregate-show-3
+slice-aggregate-show-3 c = search needs
+
+show-requires : tie.Need-show-requires
+show-requires c κs = first-showing _ _ (c .before .before .before .before .before .before .before .before .before .before .before .before .before .before .before .before .before .before .before .before .before .before .before .before .before .before .before .before .before .before .before .args .choice .now) _ _ _ (c .before .before .before .before .before .before .before .before .before .before .before .before .before .before .before .before .before .before .before .before .before .before .before .before .before .before .is-oversize .ensures) (c .before .before .before .before .before .before .before .before .before .before .before .before .before .before .before .before .before .before .before .before .before .before .before .before .before .if1 .left) _ (c .before .before .before .before .before .before .before .before .before .before .before .before .before .before .before .before .before .before .before .before .before .before .before .before .is-odd .ensures) (c .before .before .before .before .before .before .before .before .before .before .before .before .before .before .before .before .before .before .before .before .before .before .before .if2 .left) (c .before .before .before .before .before .before .before .before .before .before .before .before .before .before .before .before .before .before .before .before .before .before .if3 .left) (c .before .before .before .before .before .before .before .before .before .before .before .before .before .before .before .before .before .before .before .before .before .if4 .left) (c .before .before .before .before .before .before .before .before .before .before .before .before .before .before .before .before .before .before .before .before .if5 .left) _ (c .before .before .before .before .before .before .before .before .before .before .before .before .before .before .before .before .before .before .before .explore .ensures) (c .before .before .before .before .before .before .before .before .before .before .before .before .before .before .before .before .before .before .if6 .left) _ (c .before .before .before .before .before .before .before .before .before .before .before .grouped .ensures) (c .before .before .before .before .before .before .tie .given .1)
+
+same-length : tie.Need-same-length
+same-length c = search needs
+
+returns-7 : tie.Need-returns-7
+returns-7 c = first-chosen _ _ _ _ _ _ (c .before .before .before .before .before .before .before .before .before .before .before .before .before .before .before .before .before .before .before .before .before .before .before .before .before .before .is-oversize .ensures) (c .before .before .before .before .before .before .before .before .before .before .before .before .before .before .before .before .before .before .before .before .before .before .before .before .before .if1 .left) _ (c .before .before .before .before .before .before .before .before .before .before .before .before .before .before .before .before .before .before .before .before .before .before .before .before .is-odd .ensures) (c .before .before .before .before .before .before .before .before .before .before .before .before .before .before .before .before .before .before .before .before .before .before .before .if2 .left) (c .before .before .before .before .before .before .before .before .before .before .before .before .before .before .before .before .before .before .before .before .before .before .if3 .left) (c .before .before .before .before .before .before .before .before .before .before .before .before .before .before .before .before .before .before .before .before .before .if4 .left) (c .before .before .before .before .before .before .before .before .before .before .before .before .before .before .before .before .before .before .before .before .if5 .left) _ (c .before .before .before .before .before .before .before .before .before .before .before .before .before .before .before .before .before .before .before .explore .ensures) (c .before .before .before .before .before .before .before .before .before .before .before .before .before .before .before .before .before .before .if6 .left) _ (c .before .before .before .before .before .before .before .before .before .before .before .grouped .ensures) (c .before .before .before .before .before .before .enum-told .given .1) _ _ (c .done .ensures) (c .before .before .before .first .ensures) (omega arith)
+
+same-length-2 : tie.Need-same-length-2
+same-length-2 c = search needs
+
+same-length-3 : tie.Need-same-length-3
+same-length-3 c = search needs
+
+returns-8 : tie.Need-returns-8
+returns-8 c = first-ringed _ _ _ _ _ _ (c .before .before .before .before .before .before .before .before .before .before .before .before .before .before .before .before .before .before .before .before .before .before .before .before .before .before .before .before .before .before .before .is-oversize .ensures) (c .before .before .before .before .before .before .before .before .before .before .before .before .before .before .before .before .before .before .before .before .before .before .before .before .before .before .before .before .before .before .if1 .left) _ (c .before .before .before .before .before .before .before .before .before .before .before .before .before .before .before .before .before .before .before .before .before .before .before .before .before .before .before .before .before .is-odd .ensures) (c .before .before .before .before .before .before .before .before .before .before .before .before .before .before .before .before .before .before .before .before .before .before .before .before .before .before .before .before .if2 .left) (c .before .before .before .before .before .before .before .before .before .before .before .before .before .before .before .before .before .before .before .before .before .before .before .before .before .before .before .if3 .left) (c .before .before .before .before .before .before .before .before .before .before .before .before .before .before .before .before .before .before .before .before .before .before .before .before .before .before .if4 .left) (c .before .before .before .before .before .before .before .before .before .before .before .before .before .before .before .before .before .before .before .before .before .before .before .before .before .if5 .left) _ (c .before .before .before .before .before .before .before .before .before .before .before .before .before .before .before .before .before .before .before .before .before .before .before .before .explore .ensures) (c .before .before .before .before .before .before .before .before .before .before .before .before .before .before .before .before .before .before .before .before .before .before .before .if6 .left) _ (c .before .before .before .before .before .before .before .before .before .before .before .before .before .before .before .before .grouped .ensures) (c .before .before .before .before .before .before .before .before .before .before .before .tie .given .1) _ _ _ _ refl (c .before .before .before .before .show .ensures) (omega arith) (omega arith)
+
+pub first-spec : {M : Type 1} → statement M
+first-spec =
+    tie.close
+    (tie.spec
+    is-oversize-requires
+    refused-requires
+    returns
+    is-odd-requires
+    refused-requires-2
+    returns-2
+    refused-requires-3
+    returns-3
+    refused-requires-4
+    returns-4
+    refused-requires-5
+    returns-5
+    explore-requires
+    refused-requires-6
+    returns-6
+    grouped-requires
+    enum-told
+    slice-aggregate-first
+    first-requires
+    add-done
+    sub-done
+    done-requires
+    enum-known-tie
+    slice-aggregate-show
+    slice-aggregate-show-2
+    slice-aggregate-show-3
+    show-requires
+    same-length
+    returns-7
+    same-length-2
+    same-length-3
+    returns-8)
