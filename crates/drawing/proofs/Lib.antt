@@ -24,3 +24,5 @@ pub mod Stems
 pub mod Ordering
 pub mod Meshing
 pub mod Once
+pub mod Rooted
+pub mod Answering

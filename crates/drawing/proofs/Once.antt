@@ -1,7 +1,8 @@
 -- Two results that draw's statement allows are equal.
 use mathlib.Core.List.{List}
 use mathlib.Core.Path.{_≡_, sym, _∙_}
-use Prim.Native.Nat.{ℕ}
+use Prim.Native.Nat.{ℕ, _/_}
+use lib.ListN.{length}
 use Rattle.laws.specs.Checks.{check}
 use Rattle.laws.proofs.Checks.{check-once}
 use Rattle.network.specs.Network.{network}
@@ -24,5 +25,5 @@ module _ (n : ℕ) (ends choice order mesh sizes : List ℕ) (r r′ : Answer) (
   pub draw-once : Draw n ends choice order mesh sizes r order′ mesh′ sizes′ → Draw n ends choice order mesh sizes r′ order″ mesh″ sizes″
       → (r ≡ r′) × (order′ ≡ order″) × (mesh′ ≡ mesh″) × (sizes′ ≡ sizes″)
   draw-once =
-      checked-once n ends (cramped-draw ends choice order mesh sizes) refused-once
+      checked-once n ends (cramped-draw (length ends / 2) (length choice) (length order) (length mesh) (length sizes)) refused-once
       (check-once (check-once drew-once (refused-once 10)) (refused-once 8))

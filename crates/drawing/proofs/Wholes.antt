@@ -11,6 +11,7 @@ use Rattle.network.proofs.Lines.{touches-first, touches-second, touches-of}
 use Rattle.tree.specs.Tree.{Tree, tree-of}
 use Rattle.tree.specs.Words.{Line}
 use Rattle.tree.proofs.Searched.{Searched}
+use Rattle.tree.specs.Grown.{Grown}
 use Rattle.tree.proofs.Grown.{searched, directed}
 use Rattle.drawing.specs.Order.{order-at}
 use Rattle.drawing.specs.Inside.{Whole}

@@ -31,10 +31,9 @@ abbrev pub size-list-in : Network → List ℕ → List ℕ
 size-list-in net choice = size-list (tree-in net .live) (net .lines) (net .ends) (clockwise-in net choice)
 
 -- 3: room for less than a byte a line in the choice, two numbers a line in the order or in the meshes, or two numbers a line and one more in the sizes.
-unfoldable pub cramped-draw : List ℕ → List ℕ → List ℕ → List ℕ → List ℕ → Bool
-cramped-draw ends choice order mesh sizes =
-    let lines = length ends / 2 in
-    either (ltb (length choice) lines) (either (ltb (length order) (2 * lines)) (either (ltb (length mesh) (2 * lines)) (ltb (length sizes) (2 * lines + 1))))
+unfoldable pub cramped-draw : ℕ → ℕ → ℕ → ℕ → ℕ → Bool
+cramped-draw lines choice order mesh sizes =
+    either (ltb choice lines) (either (ltb order (2 * lines)) (either (ltb mesh (2 * lines)) (ltb sizes (2 * lines + 1))))
 
 -- Vertices - lines + meshes is 2.
 abbrev pub Balanced : Network → List ℕ → Type 0
@@ -57,8 +56,8 @@ pub record Drew (net : Network) (choice order mesh sizes : List ℕ) (r : Answer
 -- 8 exactly where the lent choice is not aligned or not written as it should be, 10 exactly where the sum fails.
 abbrev pub Draw : ℕ → List ℕ → List ℕ → List ℕ → List ℕ → List ℕ → Answer → List ℕ → List ℕ → List ℕ → Type 0
 Draw n ends choice order mesh sizes r order′ mesh′ sizes′ =
-    Checked n ends (cramped-draw ends choice order mesh sizes) (Undrawn order mesh sizes r order′ mesh′ sizes′)
-    (check (Proper (network n ends) (at choice))
+    Checked n ends (cramped-draw (length ends / 2) (length choice) (length order) (length mesh) (length sizes)) (Undrawn order mesh sizes r order′ mesh′ sizes′)
+    (check (Proper (tree-in (network n ends)) (at choice))
     (check (Balanced (network n ends) choice)
     (Drew (network n ends) choice order mesh sizes r order′ mesh′ sizes′)
     (Undrawn order mesh sizes r order′ mesh′ sizes′ 10))

@@ -8,3 +8,4 @@ pub mod Chains
 pub mod Walks
 pub mod Laying
 pub mod Ordering
+pub mod Settling
