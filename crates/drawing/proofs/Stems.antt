@@ -59,12 +59,14 @@ module _ (S : Tree) (X : Searched S) (out : ℕ → List ℕ) (O : Fanned S out)
           (over S X out O k (S .target e) (X .target-in e (le .line)))))
           (λ te.
           ap (λ (b : Bool). keep p (cond b (discovered S out k (S .target e)) (e ∷ []))) te
-          ∙ keep-none p (e ∷ [])
-          (cases (bool (p e))
-          (λ y.
-          let up : Above S w u = subst (λ (z : ℕ). Above S w z) (le .from) (starts e (le .line, te) y) in
-          absurd (apart (X .above-level u w w a (X .above-self w) (omega (arith, X .above-height u w a, X .above-height w u up)))))
-          (λ y. y), tt))
+          ∙ keep-none p (e ∷ []) (
+            cases (bool (p e))
+                (λ y.
+                let up : Above S w u = subst (λ (z : ℕ). Above S w z) (le .from) (starts e (le .line, te) y) in
+                absurd (apart (X .above-level u w w a (X .above-self w) (omega (arith, X .above-height u w a, X .above-height w u up)))))
+                (λ y. y),
+            tt,
+          ))
 
   module _ (root : ℕ) (root-in : root < S .vertices) (rooted : (v : ℕ) → v < S .vertices → Above S root v) (stem : ℕ → ℕ)
       (stems-known : All (λ b. Stem S b (stem b)) (discovered S out (S .vertices) root)) where

@@ -87,12 +87,12 @@ abbrev unreversed : ℕ → List ℕ
 unreversed v =
     cond (eqb (other .height v) 0) [] (other .parent v ∷ [])
     ++ gather
-        (λ e.
-        cond (other .tree e)
-        (let from-above = keep (λ b. eqb (other .target b) v) (discovered other (fan other other-sides) 4 (other .target e)) in
-        keep (is-left other-sides) from-above ++ (e ∷ keep (is-right other-sides) from-above))
-        (e ∷ []))
-        (fan other other-sides v)
+    (λ e.
+    cond (other .tree e)
+    (let from-above = keep (λ b. eqb (other .target b) v) (discovered other (fan other other-sides) 4 (other .target e)) in
+    keep (is-left other-sides) from-above ++ (e ∷ keep (is-right other-sides) from-above))
+    (e ∷ []))
+    (fan other other-sides v)
 
 unreversed-differs : mesh-count every 6 other-ends unreversed ≡ 2
 unfolding mesh-count gather discovered fan nested rank leaving sort insert side-of top highestb least more high low returns returnb both either from keep higher lower climb aboveb step turned opposite leave follow-in count lowest-on

@@ -28,7 +28,14 @@ pub struct Drawing {
 }
 
 // Writes the clockwise order that an aligned choice gives, the mesh of each direction and the size of each mesh, and answers how many meshes there are.
-pub fn draw(vertices: usize, ends: &[u16], choice: &[u8], order: &mut [u16], mesh: &mut [u16], sizes: &mut [u16]) -> Answer
+pub fn draw(
+    vertices: usize,
+    ends: &[u16],
+    choice: &[u8],
+    order: &mut [u16],
+    mesh: &mut [u16],
+    sizes: &mut [u16],
+) -> Answer
     ensures { λ r. ⌜ Draw vertices (now (ends .entry)) (now (choice .entry)) (now (order .entry)) (now (mesh .entry)) (now (sizes .entry))
         r (now (order .exit)) (now (mesh .exit)) (now (sizes .exit)) ⌝ }
 {
@@ -75,7 +82,17 @@ pub fn draw(vertices: usize, ends: &[u16], choice: &[u8], order: &mut [u16], mes
     let all = drawing.order;
     let meshes = drawing.mesh;
     let each = drawing.sizes;
-    settled(vertices, lines, count, &all, &meshes, &each, order, mesh, sizes)
+    settled(
+        vertices,
+        lines,
+        count,
+        &all,
+        &meshes,
+        &each,
+        order,
+        mesh,
+        sizes,
+    )
 }
 
 // Whether a lent buffer has less room than it needs.

@@ -24,11 +24,7 @@ fn rank(low: usize, high: usize) -> usize
     requires { ⌜ low < 512 ⌝ }
     ensures { λ r. ⌜ (r ≡ rank-of low high) × (r < 1024) ⌝ }
 {
-    if low < high {
-        2 * low + 1
-    } else {
-        2 * low
-    }
+    if low < high { 2 * low + 1 } else { 2 * low }
 }
 
 // A back line has its own side. A tree line has that of its return that ends highest; without a return it is right.

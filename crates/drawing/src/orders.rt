@@ -123,7 +123,15 @@ fn begun(v: usize, at: usize, heights: &[u16], parents: &[u16], order: &mut [u16
 }
 
 // The lines that leave v, each with those beside it.
-fn spread(v: usize, at: usize, fans: &[u16], nexts: &[u16], groups: &[u16], after: &[u16], order: &mut [u16]) -> usize
+fn spread(
+    v: usize,
+    at: usize,
+    fans: &[u16],
+    nexts: &[u16],
+    groups: &[u16],
+    after: &[u16],
+    order: &mut [u16],
+) -> usize
     requires { ⌜ Spreads v at (now fans) (now nexts) (now groups) (now after) (now order) ⌝ }
     ensures { λ r. ⌜ Appended (spread-in (now (fans .entry)) (now (nexts .entry)) (now (groups .entry)) (now (after .entry)) v) (now (order .entry)) at
         (now (order .exit)) r ⌝ }

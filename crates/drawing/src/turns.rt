@@ -9,7 +9,13 @@ ghost use Rattle.drawing.specs.Inside.{after, Laid, Linked};
 use network::wide;
 
 // The direction that follows each, for any order of the lines at the vertices: a flat order, and where each vertex's part of it begins.
-pub fn linked(vertices: usize, lines: usize, ends: &[u16], order: &[u16], starts: &[u16]) -> [u16; 4096]
+pub fn linked(
+    vertices: usize,
+    lines: usize,
+    ends: &[u16],
+    order: &[u16],
+    starts: &[u16],
+) -> [u16; 4096]
     requires { ⌜ Fit (network-of vertices lines (now ends)) ⌝ }
     requires { ⌜ Laid (network-of vertices lines (now ends)) (now order) (now starts) ⌝ }
     ensures { λ r. ⌜ Linked (network-of vertices lines (now (ends .entry))) (now (order .entry)) (now (starts .entry)) vertices r ⌝ }
@@ -24,7 +30,15 @@ pub fn linked(vertices: usize, lines: usize, ends: &[u16], order: &[u16], starts
 }
 
 // The directions that follow those which arrive at v.
-fn link(vertices: usize, lines: usize, v: usize, ends: &[u16], order: &[u16], starts: &[u16], nexts: &mut [u16])
+fn link(
+    vertices: usize,
+    lines: usize,
+    v: usize,
+    ends: &[u16],
+    order: &[u16],
+    starts: &[u16],
+    nexts: &mut [u16],
+)
     requires { ⌜ Fit (network-of vertices lines (now ends)) ⌝ }
     requires { ⌜ Laid (network-of vertices lines (now ends)) (now order) (now starts) ⌝ }
     requires { ⌜ (v < vertices) × Linked (network-of vertices lines (now ends)) (now order) (now starts) v (now nexts) ⌝ }
@@ -46,11 +60,7 @@ fn place_after(places: usize, i: usize) -> usize
     requires { ⌜ (i < places) × (places ≤ 4096) ⌝ }
     ensures { λ r. ⌜ (r ≡ after places i) × (r < places) ⌝ }
 {
-    if i + 1 < places {
-        i + 1
-    } else {
-        0
-    }
+    if i + 1 < places { i + 1 } else { 0 }
 }
 
 // The direction of line k that leaves v.
@@ -70,9 +80,5 @@ fn reversed(d: usize) -> usize
     requires { ⌜ d < 4096 ⌝ }
     ensures { λ r. ⌜ (r ≡ opposite d) × (r < 4096) ⌝ }
 {
-    if d % 2 == 0 {
-        d + 1
-    } else {
-        d - 1
-    }
+    if d % 2 == 0 { d + 1 } else { d - 1 }
 }
