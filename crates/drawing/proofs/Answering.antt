@@ -1,7 +1,7 @@
 -- What draw returns, one lemma for each place where it does.
 use mathlib.Core.Bool.{Bool, true, false}
 use mathlib.Core.List.{List, _++_}
-use mathlib.Core.Logic.{_⊎_, inl, inr}
+use mathlib.Core.Logic.{inl, inr}
 use mathlib.Core.Path.{_≡_, refl, sym, ap, _∙_, subst}
 use Prim.Native.Nat.{ℕ, _+_, _*_, _/_, _≤_, _<_}
 use native.Mathlib.Omega.{arith}
@@ -12,7 +12,6 @@ use borrow.Author.Tests.{lt-ltb, le-ltb, ltb-false}
 use Rattle.laws.specs.Tests.{either}
 use Rattle.laws.specs.Checks.{check}
 use Rattle.laws.specs.Lists.{filled}
-use Rattle.laws.proofs.Cases.{true-false}
 use Rattle.laws.proofs.Tests.{either-first, either-second, either-no, either-neither}
 use Rattle.network.specs.Network.{Network, network}
 use Rattle.network.specs.Numbers.{refused, done, oversize, odd}
@@ -33,7 +32,7 @@ use Rattle.choice.specs.Inside.{Decides}
 use Rattle.choice.proofs.Answering.{explored-known, explored-tree}
 use Rattle.drawing.specs.Draw.{meshes-in, size-list-in, cramped-draw, Balanced, Undrawn, Drew, Draw}
 use Rattle.drawing.specs.Ordering.{Orderable, Drawn}
-use Rattle.drawing.specs.Settling.{Settling, Wrote, Settled}
+use Rattle.drawing.specs.Settling.{Settling, Settled}
 use Rattle.drawing.proofs.Rooted.{root-low, rooted}
 
 -- The room

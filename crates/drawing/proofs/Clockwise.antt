@@ -1,10 +1,10 @@
 -- The clockwise order at a vertex has each line of the vertex once, and no other: a line that leaves stands there itself, a back line that comes in stands
 -- beside the one tree line that it comes from above, and the line from the parent stands first.
 use mathlib.Core.Bool.{Bool, true, false, cond, not}
-use mathlib.Core.List.{List, [], _∷_, _++_, reverse}
+use mathlib.Core.List.{List, [], _∷_, reverse}
 use mathlib.Core.Logic.{_⊎_, inl, inr, _≢_}
-use mathlib.Core.Path.{_≡_, refl, sym, _∙_, ap, subst}
-use Prim.Native.Nat.{ℕ, zero, suc, _+_, _*_, _≤_, _<_}
+use mathlib.Core.Path.{_≡_, sym, _∙_, ap, subst}
+use Prim.Native.Nat.{ℕ, _+_, _<_}
 use native.Mathlib.Omega.{arith}
 use lib.Dec.{eqb}
 use borrow.Author.Tests.{eq-eqb, ne-eqb, eqb-true}
@@ -12,7 +12,7 @@ use Rattle.laws.specs.Counting.{many}
 use Rattle.laws.specs.Lists.{keep}
 use Rattle.laws.specs.Sorting.{gather}
 use Rattle.laws.proofs.Cases.{cases, bool, true-false, eq-or}
-use Rattle.laws.proofs.Counting.{many-nil, many-here, many-other, many-cons}
+use Rattle.laws.proofs.Counting.{many-nil, many-cons}
 use Rattle.laws.proofs.Lists.{All, all-map, all-both, all-keep, all-kept, all-append, all-reverse, all-many}
 use Rattle.laws.proofs.Occurring.{many-append, many-reverse, many-keep-yes}
 use Rattle.laws.proofs.Gathering.{none-of, halves, all-gather, many-gather-none, many-gather-one}

@@ -1,18 +1,17 @@
 -- A line's two directions are each other's reverse, and one of them leaves each end; what follows a member of a cyclic list, by its place.
-use mathlib.Core.Bool.{Bool, true, false, cond}
+use mathlib.Core.Bool.{true}
 use mathlib.Core.List.{List, [], _∷_}
 use mathlib.Core.Logic.{_⊎_, inl, inr, _≢_}
-use mathlib.Core.Path.{_≡_, refl, sym, _∙_, ap, subst}
+use mathlib.Core.Path.{_≡_, refl, sym, _∙_, ap}
 use Prim.Native.Nat.{ℕ, zero, suc, _+_, _*_, _-_, _/_, _%_, _≤_, _<_}
 use native.Mathlib.Omega.{arith}
-use lib.Dec.{eqb, ltb}
 use lib.ListN.{length, getD, List·getD-eq-default}
 use borrow.Author.Tests.{eq-eqb, ne-eqb, lt-ltb, le-ltb}
 use Rattle.laws.specs.Counting.{many}
 use Rattle.laws.proofs.Cases.{cases, eq-or, lt-or}
 use Rattle.laws.proofs.Counting.{many-here, many-other}
 use Rattle.laws.proofs.Places.{many-at}
-use Rattle.network.specs.Network.{Network, first, second, touches}
+use Rattle.network.specs.Network.{Network, first, touches}
 use Rattle.network.specs.Inside.{Fit}
 use Rattle.network.proofs.Lines.{touches-first, touches-second, touches-of}
 use Rattle.drawing.specs.Meshes.{opposite, leave, follow-in, follow}

@@ -1,19 +1,18 @@
 -- The walk up from a vertex discovers each back line that starts above it once, and nothing else: such a line leaves the vertex itself, or starts above
 -- one tree line that leaves it.
-use mathlib.Core.Bool.{Bool, true, false, cond}
+use mathlib.Core.Bool.{true, cond}
 use mathlib.Core.List.{List, [], _∷_}
-use mathlib.Core.Logic.{_⊎_, inl, inr, _≢_}
 use mathlib.Core.Path.{_≡_, refl, sym, _∙_, ap, subst}
 use Prim.Native.Nat.{ℕ, zero, suc, _+_, _≤_, _<_}
 use native.Mathlib.Omega.{arith}
 use Rattle.laws.specs.Counting.{many}
 use Rattle.laws.specs.Sorting.{gather}
-use Rattle.laws.proofs.Cases.{cases, bool, true-false, eq-or}
+use Rattle.laws.proofs.Cases.{cases, bool, eq-or}
 use Rattle.laws.proofs.Counting.{many-nil, many-here, many-other}
 use Rattle.laws.proofs.Lists.{All, all-map}
 use Rattle.laws.proofs.Gathering.{none-of, all-gather, many-gather-one, gather-same}
 use Rattle.tree.specs.Tree.{Tree}
-use Rattle.tree.specs.Words.{Line, TreeLine, BackLine, Above, Leaves}
+use Rattle.tree.specs.Words.{BackLine, Above, Leaves}
 use Rattle.tree.proofs.Searched.{Searched}
 use Rattle.drawing.specs.Order.{discovered}
 use Rattle.drawing.specs.Walks.{Fanned}

@@ -1,21 +1,20 @@
 -- A whole order, vertex by vertex, has two places for each line in service: each direction stands at one place of it.
-use mathlib.Core.Bool.{Bool, true, false}
-use mathlib.Core.List.{List, [], _∷_, _++_, map}
-use mathlib.Core.Logic.{_⊎_, inl, inr, _≢_}
-use mathlib.Core.Path.{_≡_, refl, sym, _∙_, ap, subst}
+use mathlib.Core.Bool.{Bool, true}
+use mathlib.Core.List.{List, _++_, map}
+use mathlib.Core.Path.{_≡_, refl, sym, _∙_, ap}
 use Prim.Native.Nat.{ℕ, zero, suc, _+_, _*_, _/_, _≤_, _<_}
 use native.Mathlib.Omega.{arith}
 use lib.ListN.{length, getD, length-append, length-map}
 use Rattle.laws.specs.Counting.{many, count}
-use Rattle.laws.specs.Lists.{from, upto}
+use Rattle.laws.specs.Lists.{upto}
 use Rattle.laws.specs.Sorting.{gather}
 use Rattle.laws.proofs.Cases.{cases, bool, true-false, lt-or}
-use Rattle.laws.proofs.Counting.{count-all, count-eq, count-le, count-same}
+use Rattle.laws.proofs.Counting.{count-all, count-eq, count-same}
 use Rattle.laws.proofs.Orbits.{In}
 use Rattle.laws.proofs.Places.{place, place-in, at-place, place-at, many-at, many-map, many-map-out, all-members, gather-next, gather-none, gather-one}
-use Rattle.network.specs.Network.{Network, touches}
+use Rattle.network.specs.Network.{Network}
 use Rattle.network.specs.Inside.{Fit}
-use Rattle.laws.proofs.Lengths.{gather-long, gather-rises}
+use Rattle.laws.proofs.Lengths.{gather-long}
 use Rattle.drawing.specs.Order.{flat}
 use Rattle.drawing.specs.Meshes.{leave, either-way}
 use Rattle.drawing.specs.Inside.{Whole, every}

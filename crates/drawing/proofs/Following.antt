@@ -1,17 +1,15 @@
 -- One walk of the mesh map, from its lowest direction until it is back: what is marked so far is the walk, and what was marked before is not on it.
-use mathlib.Core.Bool.{Bool, true}
-use mathlib.Core.List.{List, [], _∷_}
-use mathlib.Core.Logic.{_⊎_, inl, inr, _≢_}
+use mathlib.Core.List.{List}
+use mathlib.Core.Logic.{inr}
 use mathlib.Core.Path.{_≡_, refl, sym, _∙_, ap, subst}
 use Prim.Native.Nat.{ℕ, zero, suc, _+_, _≤_, _<_}
 use native.Mathlib.Numerals.{add-one}
 use native.Mathlib.Omega.{arith}
 use lib.ListN.{length, getD, set, take, replicate, length-set, length-replicate, getD-replicate}
 use lib.Seq.{getD-set-same, getD-set-other}
-use Rattle.laws.specs.Counting.{many, count}
-use Rattle.laws.specs.Orbits.{walk, leads, number, walks}
-use Rattle.laws.proofs.Cases.{cases, eq-or}
-use Rattle.laws.proofs.Counting.{many-take-set, count-zero}
+use Rattle.laws.specs.Counting.{many}
+use Rattle.laws.specs.Orbits.{walk, leads, walks}
+use Rattle.laws.proofs.Counting.{many-take-set}
 use Rattle.laws.proofs.Orbits.{count-few, walk-end, walk-stays, lowest-under, In}
 use Rattle.laws.proofs.Numbering.{Put, Done, Going, start, begin, go-on, finish, pass}
 use Rattle.drawing.specs.Inside.{table, every, none, Numberable, Numbered, Followable, Followed}

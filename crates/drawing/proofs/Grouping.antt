@@ -1,8 +1,8 @@
 -- The groups: each line found goes to the front of its group, so that those found later stand first.
-use mathlib.Core.Bool.{Bool, true, false}
-use mathlib.Core.List.{List, [], _∷_, _++_, append-nil, reverse, reverse-append}
+use mathlib.Core.Bool.{Bool}
+use mathlib.Core.List.{List, [], _∷_, _++_, reverse}
 use mathlib.Core.Path.{_≡_, refl, sym, _∙_, ap, subst}
-use Prim.Native.Nat.{ℕ, zero, suc, _+_, _-_, _*_, _≤_, _<_}
+use Prim.Native.Nat.{ℕ, suc, _+_, _-_, _*_, _≤_, _<_}
 use native.Mathlib.Numerals.{add-one}
 use native.Mathlib.Omega.{arith}
 use lib.Dec.{eqb}
@@ -13,12 +13,12 @@ use Rattle.laws.specs.Counting.{many}
 use Rattle.laws.specs.Lists.{keep}
 use Rattle.laws.proofs.Cases.{cases, bool}
 use Rattle.laws.proofs.Counting.{many-here}
-use Rattle.laws.proofs.Lists.{keep-nil, keep-yes, keep-no, keep-append}
+use Rattle.laws.proofs.Lists.{keep-nil}
 use Rattle.laws.proofs.Occurring.{many-append, many-reverse, many-keep-yes, many-keep-no}
 use Rattle.drawing.specs.Chains.{Chained}
 use Rattle.drawing.specs.Laying.{Groupable, group-of, groups-in}
 use Rattle.laws.proofs.Lengths.{length-keep}
-use Rattle.laws.proofs.Keeping.{front-yes, front-no, not-kept}
+use Rattle.laws.proofs.Keeping.{front-yes, front-no}
 use Rattle.drawing.proofs.Hanging.{chained-hang, chained-none}
 
 pub record Grouping (count : ℕ) (found stems sides heads nexts : List ℕ) (i : ℕ) : Type 0 where

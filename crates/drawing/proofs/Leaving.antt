@@ -1,15 +1,14 @@
 -- The fan of a vertex has each line that leaves it once, and no other.
-use mathlib.Core.Bool.{Bool, true, false, not}
-use mathlib.Core.List.{List, _++_, reverse}
-use mathlib.Core.Path.{_≡_, refl, sym, _∙_, ap}
-use Prim.Native.Nat.{ℕ, _+_, _≤_, _<_}
+use mathlib.Core.Bool.{Bool, true}
+use mathlib.Core.List.{reverse}
+use mathlib.Core.Path.{_≡_, _∙_}
+use Prim.Native.Nat.{ℕ, _+_, _<_}
 use native.Mathlib.Omega.{arith}
 use lib.Dec.{eqb}
 use borrow.Author.Tests.{eq-eqb, eqb-true}
 use Rattle.laws.specs.Tests.{both}
 use Rattle.laws.specs.Counting.{many}
 use Rattle.laws.specs.Lists.{from, keep}
-use Rattle.laws.proofs.Cases.{cases, bool}
 use Rattle.laws.proofs.Tests.{both-yes, both-of}
 use Rattle.laws.proofs.Lists.{All, all-map, all-both, all-keep, all-kept, all-append, all-reverse, from-in, from-all}
 use Rattle.laws.proofs.Occurring.{many-append, many-reverse, many-keep-yes}

@@ -1,10 +1,10 @@
 -- What `link` and `linked` need, in their own terms.
 use mathlib.Core.List.{List}
-use mathlib.Core.Path.{_≡_, refl, sym, _∙_, ap, subst}
-use Prim.Native.Nat.{ℕ, suc, _+_, _-_, _*_, _≤_, _<_}
+use mathlib.Core.Path.{_≡_, _∙_, ap}
+use Prim.Native.Nat.{ℕ, _+_, _-_, _*_, _≤_, _<_}
 use native.Mathlib.Omega.{arith}
 use lib.ListN.{length, getD, set, replicate}
-use Rattle.network.specs.Network.{Network, network-of}
+use Rattle.network.specs.Network.{network-of}
 use Rattle.network.specs.Inside.{Fit}
 use Rattle.drawing.specs.Meshes.{opposite, leave}
 use Rattle.drawing.specs.Inside.{after, Laid, Linked}

@@ -1,23 +1,22 @@
 -- The table of the mesh map, vertex by vertex and place by place: what arrives by the line at one place leaves by the line at the next.
-use mathlib.Core.Bool.{Bool, true}
 use mathlib.Core.List.{List}
-use mathlib.Core.Logic.{_⊎_, inl, inr, _≢_}
+use mathlib.Core.Logic.{_≢_}
 use mathlib.Core.Path.{_≡_, refl, sym, _∙_, ap, subst}
-use Prim.Native.Nat.{ℕ, zero, suc, _+_, _-_, _*_, _/_, _%_, _≤_, _<_}
+use Prim.Native.Nat.{ℕ, _+_, _-_, _*_, _/_, _%_, _≤_, _<_}
 use native.Mathlib.Numerals.{add-one}
 use native.Mathlib.Omega.{arith}
 use lib.ListN.{length, getD, set, length-set, replicate, length-replicate}
-use lib.Seq.{getD-set-same, getD-set-other, getD-drop, getD-take, length-slice, slice}
+use lib.Seq.{getD-set-same, getD-set-other, getD-drop, getD-take, length-slice}
 use Rattle.laws.proofs.Cases.{cases, eq-or, lt-or}
 use Rattle.laws.proofs.Orbits.{In}
 use Rattle.laws.specs.Counting.{many}
 use Rattle.laws.proofs.Places.{place, place-at}
-use Rattle.network.specs.Network.{Network, touches}
+use Rattle.network.specs.Network.{Network}
 use Rattle.network.specs.Inside.{Fit}
 use Rattle.drawing.specs.Meshes.{opposite, leave, turned, step, either-way}
-use Rattle.drawing.specs.Inside.{every, Whole, after, order-in, Laid, Linked}
-use Rattle.drawing.proofs.Directions.{opposite-even, opposite-odd, opposite-twice, opposite-below, leave-first, leave-second, leave-below, leave-one, after-more, after-last, after-in}
-use Rattle.drawing.proofs.Turning.{once, member, member-way, Standing, stands}
+use Rattle.drawing.specs.Inside.{every, after, order-in, Laid, Linked}
+use Rattle.drawing.proofs.Directions.{opposite-even, opposite-odd, opposite-twice, opposite-below, leave-first, leave-second, leave-one, after-more, after-last, after-in}
+use Rattle.drawing.proofs.Turning.{once, member, member-way, stands}
 
 -- nothing stands twice: two places with one member are one place
 place-one : (r : List ℕ) → ((z : ℕ) → many z r ≤ 1) → (i j : ℕ) → i < length r → j < length r → getD r i 0 ≡ getD r j 0 → i ≡ j

@@ -1,19 +1,19 @@
 -- What holds of the meshes of any whole order. Each direction is on exactly one mesh, the walk of the mesh map from it; and of all meshes one counts a line
 -- along its direction, and one, the same or another, counts it against its direction.
-use mathlib.Core.Bool.{Bool, true, false, cond}
+use mathlib.Core.Bool.{Bool, true}
 use mathlib.Core.List.{List}
-use mathlib.Core.Logic.{_⊎_, inl, inr, _≢_}
-use mathlib.Core.Path.{_≡_, refl, sym, _∙_, ap, subst}
-use Prim.Native.Nat.{ℕ, zero, suc, _+_, _*_, _/_, _%_, _≤_, _<_}
+use mathlib.Core.Logic.{_≢_}
+use mathlib.Core.Path.{_≡_, _∙_, ap}
+use Prim.Native.Nat.{ℕ, zero, suc, _+_, _*_, _/_, _≤_, _<_}
 use native.Mathlib.Omega.{arith}
 use lib.Dec.{eqb}
 use borrow.Author.Tests.{eq-eqb, ne-eqb}
 use Rattle.laws.specs.Counting.{count}
-use Rattle.laws.specs.Orbits.{walk, lowest-on, leads, number, walks}
-use Rattle.laws.proofs.Cases.{cases, bool, eq-or, lt-or}
+use Rattle.laws.specs.Orbits.{walk, lowest-on, leads, walks}
+use Rattle.laws.proofs.Cases.{cases, eq-or, lt-or}
 use Rattle.laws.proofs.Counting.{count-zero, count-yes, count-no}
-use Rattle.laws.proofs.Orbits.{In, Turn, count-few, count-below, lowest-step, lowest-stays, leads-lowest, number-below, reach}
-use Rattle.network.specs.Network.{Network, network-of}
+use Rattle.laws.proofs.Orbits.{In, Turn, count-below, lowest-step, leads-lowest, number-below, reach}
+use Rattle.network.specs.Network.{Network}
 use Rattle.network.specs.Inside.{Fit}
 use Rattle.drawing.specs.Meshes.{opposite, step, either-way, mesh-of, mesh-count}
 use Rattle.drawing.specs.Inside.{Whole}

@@ -1,22 +1,19 @@
 -- From the order to the meshes: the parts of the flat order are the lists of the definition, so that the table of followers is the mesh map, and its walks
 -- are the meshes.
-use mathlib.Core.Bool.{Bool, true, false, cond}
+use mathlib.Core.Bool.{Bool, true}
 use mathlib.Core.List.{List, [], _∷_, _++_, map}
-use mathlib.Core.Logic.{_≢_}
 use mathlib.Core.Path.{_≡_, refl, sym, _∙_, ap, subst}
 use Prim.Native.Nat.{ℕ, zero, suc, _+_, _-_, _*_, _/_, _≤_, _<_}
 use native.Mathlib.Numerals.{add-one}
 use native.Mathlib.Omega.{arith}
-use lib.Dec.{eqb}
-use lib.ListN.{length, getD, take, drop, length-append}
+use lib.ListN.{length, getD, take, drop}
 use lib.Seq.{take-append-le, take-length, take-take, take-suc, drop-append-seam, slice}
 use borrow.Author.Tests.{eq-eqb, ne-eqb}
-use Rattle.laws.specs.Tests.{both, either}
+use Rattle.laws.specs.Tests.{both}
 use Rattle.laws.specs.Counting.{many, count}
 use Rattle.laws.specs.Lists.{from, upto}
-use Rattle.laws.specs.Sorting.{gather}
 use Rattle.laws.specs.Orbits.{number, walks}
-use Rattle.laws.proofs.Cases.{cases, eq-or, lt-or}
+use Rattle.laws.proofs.Cases.{cases, lt-or}
 use Rattle.laws.proofs.Counting.{count-same, count-all}
 use Rattle.laws.proofs.Orbits.{In, Turn, count-few, number-below}
 use Rattle.laws.proofs.Agreeing.{turn-agree, number-agree, walks-agree}

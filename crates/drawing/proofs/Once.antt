@@ -3,7 +3,6 @@ use mathlib.Core.List.{List}
 use mathlib.Core.Path.{_≡_, sym, _∙_}
 use Prim.Native.Nat.{ℕ, _/_}
 use lib.ListN.{length}
-use Rattle.laws.specs.Checks.{check}
 use Rattle.laws.proofs.Checks.{check-once}
 use Rattle.network.specs.Network.{network}
 use Rattle.network.specs.declared.Answer.{Answer}

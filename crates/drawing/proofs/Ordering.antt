@@ -1,45 +1,45 @@
 -- From the tables to the order: each step of `ordered` gives the next what it asks, and the lists at the end are those of the definition.
-use mathlib.Core.Bool.{Bool, true, false, cond, not}
-use mathlib.Core.List.{List, [], _∷_, _++_, append-nil, reverse}
-use mathlib.Core.Logic.{_⊎_, inl, inr, _≢_}
+use mathlib.Core.Bool.{Bool, true, false, cond}
+use mathlib.Core.List.{List, [], _∷_, _++_, reverse}
+use mathlib.Core.Logic.{_≢_}
 use mathlib.Core.Path.{_≡_, refl, sym, _∙_, ap, subst}
 use Prim.Native.Nat.{ℕ, zero, suc, _+_, _-_, _*_, _/_, _≤_, _<_}
 use native.Mathlib.Omega.{arith}
 use lib.Dec.{eqb, ltb}
 use lib.ListN.{length, getD, take, replicate, length-replicate}
 use lib.Seq.{length-take-le, getD-take}
-use borrow.Author.Tests.{eq-eqb, ne-eqb, eqb-true, lt-ltb, le-ltb}
+use borrow.Author.Tests.{eq-eqb, ne-eqb, lt-ltb, le-ltb}
 use Rattle.laws.specs.Tests.{both}
 use Rattle.laws.specs.Counting.{many, bit, count}
 use Rattle.laws.specs.Lists.{keep, upto}
-use Rattle.laws.specs.Sorting.{gather, sort}
-use Rattle.laws.proofs.Cases.{cases, bool, true-false, eq-or, lt-or}
+use Rattle.laws.specs.Sorting.{gather}
+use Rattle.laws.proofs.Cases.{cases, bool, eq-or}
 use Rattle.laws.proofs.Tests.{least-none, both-yes, both-no-first, both-no-second}
-use Rattle.laws.proofs.Counting.{many-nil, count-all, count-le}
-use Rattle.laws.proofs.Lists.{All, all-map, all-many, all-keep, keep-nil, keep-same, from-all}
-use Rattle.laws.proofs.Places.{place, place-at, many-at}
-use Rattle.laws.proofs.Gathering.{none-of, keep-both, gather-same}
+use Rattle.laws.proofs.Counting.{many-nil}
+use Rattle.laws.proofs.Lists.{All, all-map, all-many, keep-nil, keep-same}
+use Rattle.laws.proofs.Places.{place, many-at}
+use Rattle.laws.proofs.Gathering.{keep-both, gather-same}
 use Rattle.laws.proofs.Lengths.{gather-upto, few-distinct}
-use Rattle.network.specs.Network.{network-of, first, second}
+use Rattle.network.specs.Network.{network-of}
 use Rattle.network.specs.Inside.{Fit}
 use Rattle.tree.specs.Tree.{Tree, tree-of}
 use Rattle.tree.specs.Returns.{end, returns, low}
-use Rattle.tree.specs.Words.{Line, TreeLine, BackLine, Above, Leaves, Return}
+use Rattle.tree.specs.Words.{Line, BackLine, Leaves}
 use Rattle.tree.proofs.Searched.{Searched}
 use Rattle.tree.proofs.Grown.{searched}
 use Rattle.tree.proofs.Returns.{in-returns, returned, low-most}
-use Rattle.fork.specs.Ends.{high, more, top, highestb}
+use Rattle.fork.specs.Ends.{more, top, highestb}
 use Rattle.fork.proofs.Ends.{highest-of, top-first}
 use Rattle.drawing.specs.Order.{side-of, is-left, is-right, rank, fan, discovered, incoming, beside, clockwise, order-at, flat}
 use Rattle.drawing.specs.Inside.{table, Whole}
 use Rattle.drawing.specs.Nesting.{Tabulated, rank-of, rank-in, Rankable, side-in, Sidable}
-use Rattle.drawing.specs.Chains.{Chain, Chained, Ranked, Sorted, Fannable, fan-in}
+use Rattle.drawing.specs.Chains.{Chained, Ranked, Sorted, Fannable, fan-in}
 use Rattle.drawing.specs.Walks.{Fanned, out-in, Walkable, Stem, Setting-out, Walked}
-use Rattle.drawing.specs.Laying.{Groupable, group-of, groups-in, item-in, spread-in, first-in, lines-at, Layable, Laid-out}
+use Rattle.drawing.specs.Laying.{Groupable, group-of, groups-in, item-in, first-in, lines-at, Layable, Laid-out}
 use Rattle.drawing.specs.Ordering.{Orderable}
 use Rattle.drawing.proofs.Leaving.{fanned}
 use Rattle.drawing.proofs.Directions.{parity}
-use Rattle.drawing.proofs.Discovered.{Over, by-way, discovered-more, over, once}
+use Rattle.drawing.proofs.Discovered.{Over, by-way, over, once}
 use Rattle.drawing.proofs.Hanging.{chained-list, chained-as}
 use Rattle.drawing.proofs.Nesting.{sorted-once, sorted-in, fan-is}
 use Rattle.drawing.proofs.Stems.{comes-from, comes-not}

@@ -1,8 +1,7 @@
 -- A finished search of a connected network has one root, vertex 0, and every vertex stands above it: as many tree lines down as a vertex is high lead to a
 -- vertex at height 0.
-use mathlib.Core.List.{List}
-use mathlib.Core.Path.{_≡_, refl, sym, _∙_, ap, subst}
-use Prim.Native.Nat.{ℕ, _+_, _-_, _≤_, _<_}
+use mathlib.Core.Path.{_≡_, sym, _∙_, ap}
+use Prim.Native.Nat.{ℕ, _-_, _<_}
 use native.Mathlib.Omega.{arith}
 use lib.ListN.{getD}
 use Rattle.network.specs.Network.{Network, Connected}

@@ -1,12 +1,10 @@
 -- Writing the order down, list after list.
-use mathlib.Core.Bool.{Bool, true, false}
 use mathlib.Core.List.{List, [], _∷_, _++_, append-nil, append-assoc}
 use mathlib.Core.Logic.{_≢_}
 use mathlib.Core.Path.{_≡_, refl, sym, _∙_, ap, subst}
-use Prim.Native.Nat.{ℕ, zero, suc, _+_, _-_, _*_, _≤_, _<_}
+use Prim.Native.Nat.{ℕ, suc, _+_, _-_, _*_, _≤_, _<_}
 use native.Mathlib.Numerals.{add-one}
 use native.Mathlib.Omega.{arith}
-use lib.Dec.{eqb}
 use lib.ListN.{length, getD, set, take, replicate, length-set, length-append, length-replicate, getD-replicate}
 use lib.Seq.{take-suc-set, getD-set-same, getD-set-other}
 use borrow.Author.Tests.{eq-eqb, ne-eqb}
@@ -16,7 +14,7 @@ use Rattle.laws.proofs.Cases.{cases, eq-or}
 use Rattle.laws.proofs.Lists.{All}
 use Rattle.laws.proofs.Places.{gather-append, gather-next}
 use Rattle.laws.proofs.Gathering.{gather-nil, gather-cons}
-use Rattle.drawing.specs.Chains.{Chain, chain-from, Chained, Copyable, Appended}
+use Rattle.drawing.specs.Chains.{Chain, chain-from, Copyable, Appended}
 use Rattle.drawing.specs.Walks.{out-in}
 use Rattle.drawing.specs.Laying.{item-in, Besides, spread-in, Spreads, first-in, Begins, lines-at, Layable, Laid-out}
 use Rattle.laws.proofs.Lengths.{from-nil, gather-rises, gather-length}

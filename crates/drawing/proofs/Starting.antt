@@ -1,16 +1,15 @@
 -- A line starts at its first end exactly where it is a tree line and that end is lower, or a back line and that end is not lower.
 use mathlib.Core.Bool.{Bool, true, false, not}
 use mathlib.Core.List.{List}
-use mathlib.Core.Path.{_≡_, refl, sym, _∙_, ap, subst}
-use Prim.Native.Nat.{ℕ, _+_, _*_, _≤_, _<_}
-use native.Mathlib.Omega.{arith}
+use mathlib.Core.Path.{_≡_, refl, sym, _∙_}
+use Prim.Native.Nat.{ℕ, _+_, _*_, _<_}
 use lib.Dec.{eqb, ltb, leb}
 use lib.ListN.{getD}
-use borrow.Author.Tests.{eq-eqb, ne-eqb, eqb-true, lt-ltb, le-ltb, le-leb, lt-leb, not-true, not-false}
+use borrow.Author.Tests.{eq-eqb, ne-eqb, lt-ltb, le-ltb, le-leb, lt-leb, not-true, not-false}
 use Rattle.laws.proofs.Cases.{cases, bool, lt-or}
 use Rattle.network.specs.Network.{first, second}
 use Rattle.tree.specs.Tree.{lower, higher}
-use Rattle.drawing.specs.Walks.{Tabled, is-forward, source-in, target-in}
+use Rattle.drawing.specs.Walks.{is-forward, source-in, target-in}
 
 module _ (ends kind height : List ℕ) (k : ℕ) where
   abbrev up : Bool

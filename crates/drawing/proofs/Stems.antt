@@ -1,26 +1,19 @@
 -- The groups of the code are the companies of the definition: of all back lines in the order of their discovery, those that come in from above a tree line
 -- are among those that the walk discovers above it, in the same order.
-use mathlib.Core.Bool.{Bool, true, false, cond, not}
-use mathlib.Core.List.{List, [], _∷_, _++_, append-nil, reverse}
-use mathlib.Core.Logic.{_⊎_, inl, inr, _≢_}
-use mathlib.Core.Path.{_≡_, refl, sym, _∙_, ap, subst}
-use Prim.Native.Nat.{ℕ, zero, suc, _+_, _*_, _≤_, _<_}
+use mathlib.Core.Bool.{Bool, true, false, cond}
+use mathlib.Core.List.{List, [], _∷_}
+use mathlib.Core.Path.{_≡_, sym, _∙_, ap, subst}
+use Prim.Native.Nat.{ℕ, zero, suc, _+_, _≤_, _<_}
 use native.Mathlib.Omega.{arith}
 use lib.Dec.{eqb}
-use lib.ListN.{length, getD}
 use borrow.Author.Tests.{eq-eqb, ne-eqb, eqb-true}
-use Rattle.laws.specs.Tests.{both}
-use Rattle.laws.specs.Counting.{many}
 use Rattle.laws.specs.Lists.{keep}
-use Rattle.laws.specs.Sorting.{gather}
 use Rattle.laws.proofs.Cases.{cases, bool, true-false, eq-or}
-use Rattle.laws.proofs.Tests.{both-yes, both-of}
-use Rattle.laws.proofs.Counting.{many-nil, many-here, many-other}
-use Rattle.laws.proofs.Lists.{All, all-map, all-many, keep-none, keep-same, keep-nil}
+use Rattle.laws.proofs.Lists.{All, all-map, all-many, keep-none, keep-same}
 use Rattle.laws.proofs.Gathering.{keep-gather}
 use Rattle.laws.proofs.Keeping.{gather-only}
 use Rattle.tree.specs.Tree.{Tree}
-use Rattle.tree.specs.Words.{Line, TreeLine, BackLine, Above, Leaves}
+use Rattle.tree.specs.Words.{BackLine, Above, Leaves}
 use Rattle.tree.proofs.Searched.{Searched}
 use Rattle.drawing.specs.Order.{discovered}
 use Rattle.drawing.specs.Walks.{Fanned, Stem}

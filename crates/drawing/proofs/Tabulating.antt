@@ -1,16 +1,14 @@
 -- A table filled number by number; and the rank and the side of one line, by the ways of the code.
-use mathlib.Core.Bool.{Bool, true, false, cond}
 use mathlib.Core.List.{List}
 use mathlib.Core.Logic.{_≢_}
-use mathlib.Core.Path.{_≡_, refl, sym, _∙_, ap, subst}
+use mathlib.Core.Path.{_≡_, sym, _∙_, ap, subst}
 use Prim.Native.Nat.{ℕ, _+_, _*_, _≤_, _<_}
 use native.Mathlib.Omega.{arith}
-use lib.Dec.{eqb, ltb}
 use lib.ListN.{length, getD, set, replicate, length-set, length-replicate}
 use lib.Seq.{getD-set-same, getD-set-other}
 use borrow.Author.Tests.{eq-eqb, ne-eqb, lt-ltb, le-ltb}
 use Rattle.laws.proofs.Cases.{cases, eq-or}
-use Rattle.drawing.specs.Nesting.{Tabulated, rank-of, rank-in, Rankable, side-in, Sidable}
+use Rattle.drawing.specs.Nesting.{Tabulated, rank-of, rank-in, Rankable, side-in}
 
 pub record Tabulating (f : ℕ → ℕ) (m : ℕ) (table : List ℕ) (k : ℕ) : Type 0 where
   pub upto : k ≤ m

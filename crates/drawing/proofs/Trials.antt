@@ -1,16 +1,16 @@
 -- The definitions on small networks, by computation: K4 with all left, to the letter; a single line; a lone vertex; K5 without a line; and wrong rules,
 -- which give something else.
 use mathlib.Core.Path.{_≡_, refl}
-use mathlib.Core.Bool.{Bool, true, false, cond, not}
+use mathlib.Core.Bool.{Bool, true, cond}
 use mathlib.Core.List.{List, [], _∷_, _++_, map, reverse}
-use Prim.Native.Nat.{ℕ, zero, suc, _+_, _*_, _-_, _/_, _%_}
-use lib.Dec.{eqb, ltb, leb}
-use lib.ListN.{getD, length}
+use Prim.Native.Nat.{ℕ, _+_, _*_, _-_}
+use lib.Dec.{eqb}
+use lib.ListN.{getD}
 use Rattle.laws.specs.Tests.{both, either, least}
 use Rattle.laws.specs.Counting.{count}
 use Rattle.laws.specs.Lists.{keep, from, upto}
 use Rattle.laws.specs.Sorting.{gather, insert, sort}
-use Rattle.laws.specs.Orbits.{walk, lowest-on, walks}
+use Rattle.laws.specs.Orbits.{lowest-on}
 use Rattle.tree.specs.Tree.{Tree, tree-of, higher, lower, climb, aboveb}
 use Rattle.tree.specs.Returns.{returnb, returns, low}
 use Rattle.fork.specs.Ends.{high, more, top, highestb}

@@ -3,8 +3,8 @@
 use mathlib.Core.Bool.{Bool, true}
 use mathlib.Core.List.{List}
 use mathlib.Core.Logic.{_≢_}
-use mathlib.Core.Path.{_≡_, refl, sym, _∙_, ap, subst}
-use Prim.Native.Nat.{ℕ, suc, _+_, _*_, _/_, _≤_, _<_}
+use mathlib.Core.Path.{_≡_, sym, _∙_, ap, subst}
+use Prim.Native.Nat.{ℕ, _*_, _/_, _≤_, _<_}
 use native.Mathlib.Omega.{arith}
 use lib.ListN.{length, getD}
 use Rattle.laws.specs.Counting.{many}
@@ -13,7 +13,7 @@ use Rattle.laws.proofs.Orbits.{In, Turn}
 use Rattle.laws.proofs.Places.{place, place-in, at-place, place-at, many-at}
 use Rattle.network.specs.Network.{Network, touches}
 use Rattle.network.specs.Inside.{Fit}
-use Rattle.drawing.specs.Meshes.{opposite, leave, follow, turned, step, either-way}
+use Rattle.drawing.specs.Meshes.{opposite, leave, turned, step, either-way}
 use Rattle.drawing.specs.Inside.{Whole, after}
 use Rattle.drawing.proofs.Directions.{opposite-half, opposite-twice, opposite-below, leave-half, leave-below, leave-one, leave-from, from-end, from-leaves, after-in, after-one, follow-at}
 

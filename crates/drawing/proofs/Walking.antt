@@ -2,28 +2,27 @@
 -- it leads up to, so that the stem of a back line is found by the height at which it ends.
 use mathlib.Core.Bool.{Bool, true, false, cond}
 use mathlib.Core.List.{List, [], _∷_, _++_, append-nil, append-assoc}
-use mathlib.Core.Logic.{_⊎_, inl, inr, _≢_}
+use mathlib.Core.Logic.{_≢_}
 use mathlib.Core.Path.{_≡_, refl, sym, _∙_, ap, subst}
-use Prim.Native.Nat.{ℕ, zero, suc, _+_, _-_, _*_, _≤_, _<_}
+use Prim.Native.Nat.{ℕ, zero, suc, _+_, _-_, _≤_, _<_}
 use native.Mathlib.Numerals.{add-one}
 use native.Mathlib.Omega.{arith}
 use lib.Dec.{eqb}
 use lib.ListN.{length, getD, set, take, length-set, length-append}
 use lib.Seq.{getD-set-same, getD-set-other, take-suc-set}
-use borrow.Author.Tests.{eq-eqb, ne-eqb, eqb-true}
+use borrow.Author.Tests.{eq-eqb, ne-eqb}
 use Rattle.laws.specs.Sorting.{gather}
-use Rattle.laws.proofs.Cases.{cases, bool, eq-or, lt-or}
-use Rattle.laws.proofs.Lists.{All, all-map, all-append, all-left, all-right}
+use Rattle.laws.proofs.Cases.{cases, bool, eq-or}
+use Rattle.laws.proofs.Lists.{All, all-map, all-append}
 use Rattle.laws.proofs.Places.{gather-append}
 use Rattle.laws.proofs.Gathering.{gather-nil, gather-cons}
-use Rattle.network.specs.Network.{first, second}
 use Rattle.tree.specs.Tree.{Tree, tree-of}
-use Rattle.tree.specs.Words.{Line, TreeLine, BackLine, Above, Leaves}
+use Rattle.tree.specs.Words.{TreeLine, Above, Leaves}
 use Rattle.tree.proofs.Searched.{Searched}
 use Rattle.tree.proofs.Grown.{searched}
 use Rattle.drawing.specs.Order.{discovered}
 use Rattle.drawing.specs.Inside.{none}
-use Rattle.drawing.specs.Chains.{Chain, chain-from, Appended}
+use Rattle.drawing.specs.Chains.{Chain, chain-from}
 use Rattle.drawing.specs.Walks.{Fanned, Tabled, target-in, out-in, Walkable, On-path, Stem, Setting-out, Walked}
 use Rattle.drawing.proofs.Hanging.{chain-list}
 use Rattle.drawing.proofs.Discovered.{by-way, discovered-more, discovered-same}

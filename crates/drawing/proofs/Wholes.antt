@@ -1,16 +1,13 @@
 -- The order that any choice of sides gives, from the tables of a finished search, has each line once at each of its ends.
-use mathlib.Core.Bool.{Bool, true}
+use mathlib.Core.Bool.{true}
 use mathlib.Core.List.{List}
 use mathlib.Core.Logic.{_⊎_, inl, inr}
-use mathlib.Core.Path.{_≡_, refl, sym, _∙_}
-use Prim.Native.Nat.{ℕ, _<_}
-use Rattle.laws.specs.Counting.{many}
+use mathlib.Core.Path.{_≡_, sym, _∙_}
+use Prim.Native.Nat.{ℕ}
 use Rattle.laws.proofs.Cases.{cases}
-use Rattle.network.specs.Network.{Network, network-of, first, second, touches}
+use Rattle.network.specs.Network.{network-of, touches}
 use Rattle.network.proofs.Lines.{touches-first, touches-second, touches-of}
 use Rattle.tree.specs.Tree.{Tree, tree-of}
-use Rattle.tree.specs.Words.{Line}
-use Rattle.tree.proofs.Searched.{Searched}
 use Rattle.tree.specs.Grown.{Grown}
 use Rattle.tree.proofs.Grown.{searched, directed}
 use Rattle.drawing.specs.Order.{order-at}

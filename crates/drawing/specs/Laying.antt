@@ -1,5 +1,5 @@
 -- The order written down from fans and groups of lines. (What functions inside ask of each other.)
-use mathlib.Core.Bool.{Bool, cond}
+use mathlib.Core.Bool.{cond}
 use mathlib.Core.List.{List, [], _∷_, _++_, reverse}
 use mathlib.Core.Path.{_≡_}
 use Prim.Native.Nat.{ℕ, _+_, _*_, _≤_, _<_}
@@ -8,7 +8,7 @@ use lib.ListN.{getD, length, take}
 use Rattle.laws.specs.Counting.{many}
 use Rattle.laws.specs.Lists.{keep, upto}
 use Rattle.laws.specs.Sorting.{gather}
-use Rattle.drawing.specs.Chains.{Chain, chain-from, Chained, Appended}
+use Rattle.drawing.specs.Chains.{Chained}
 use Rattle.drawing.specs.Walks.{out-in}
 
 -- The lines found have a stem and a side, so that they fall into groups.

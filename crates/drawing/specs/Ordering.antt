@@ -3,7 +3,7 @@ use mathlib.Core.List.{List}
 use mathlib.Core.Path.{_≡_}
 use Prim.Native.Nat.{ℕ, _+_, _*_, _≤_, _<_}
 use lib.ListN.{getD, length, take}
-use Rattle.tree.specs.Tree.{Tree, tree-of}
+use Rattle.tree.specs.Tree.{tree-of}
 use Rattle.tree.specs.Returns.{low}
 use Rattle.tree.specs.Words.{BackLine, Above}
 use Rattle.tree.specs.Grown.{Grown}

@@ -1,6 +1,6 @@
 -- The walk that discovers the back lines. (What functions inside ask of each other.)
 use mathlib.Core.Bool.{Bool, cond, not}
-use mathlib.Core.List.{List, [], _∷_}
+use mathlib.Core.List.{List}
 use mathlib.Core.Path.{_≡_}
 use Prim.Native.Nat.{ℕ, _+_, _*_, _≤_, _<_}
 use lib.Dec.{eqb, ltb}
@@ -9,7 +9,7 @@ use Rattle.laws.specs.Counting.{many}
 use Rattle.laws.proofs.Lists.{All}
 use Rattle.network.specs.Network.{first, second}
 use Rattle.tree.specs.Tree.{Tree, tree-of, lower, higher}
-use Rattle.tree.specs.Words.{TreeLine, BackLine, Above, Leaves}
+use Rattle.tree.specs.Words.{TreeLine, Above, Leaves}
 use Rattle.tree.specs.Grown.{Grown}
 use Rattle.drawing.specs.Order.{discovered}
 use Rattle.drawing.specs.Chains.{Chain, chain-from, Appended}

@@ -1,9 +1,8 @@
 -- Maps that agree on what takes part have the same walks, with the same numbers.
-use mathlib.Core.Bool.{Bool, true, cond, false}
+use mathlib.Core.Bool.{Bool}
 use mathlib.Core.Path.{_≡_, refl, sym, _∙_, ap, subst}
-use Prim.Native.Nat.{ℕ, zero, suc, _≤_, _<_, min}
+use Prim.Native.Nat.{ℕ, zero, suc, _<_, min}
 use native.Mathlib.Omega.{arith}
-use lib.Dec.{eqb}
 use Rattle.laws.specs.Counting.{count}
 use Rattle.laws.specs.Orbits.{lowest-on, leads, number, walks}
 use Rattle.laws.proofs.Cases.{cases, bool}

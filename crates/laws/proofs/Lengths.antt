@@ -1,12 +1,12 @@
 -- How long lists are that were counted up, kept, sorted or gathered; and that different numbers below m are not more than m.
-use mathlib.Core.Bool.{Bool, true, false}
-use mathlib.Core.List.{List, [], _∷_, _++_}
+use mathlib.Core.Bool.{Bool, true}
+use mathlib.Core.List.{List, [], _∷_}
 use mathlib.Core.Path.{_≡_, refl, sym, _∙_, ap}
 use Prim.Native.Nat.{ℕ, zero, suc, _+_, _≤_, _<_}
 use native.Mathlib.Omega.{arith}
 use lib.Dec.{leb}
 use lib.ListN.{length, getD, length-append}
-use Rattle.laws.specs.Counting.{many, count}
+use Rattle.laws.specs.Counting.{many}
 use Rattle.laws.specs.Lists.{from, keep, upto}
 use Rattle.laws.specs.Sorting.{gather, insert, sort}
 use Rattle.laws.proofs.Cases.{cases, bool, lt-or}

@@ -1,14 +1,14 @@
 -- A loop that numbers the walks of an injective map: what holds between two walks, and inside one; one lemma for each move of the loop.
-use mathlib.Core.Path.{_≡_, refl, sym, _∙_, ap, subst}
-use mathlib.Core.Bool.{Bool, true, false, cond}
-use mathlib.Core.Logic.{_⊎_, inl, inr, _≢_}
-use Prim.Native.Nat.{ℕ, zero, suc, _+_, _-_, _≤_, _<_}
+use mathlib.Core.Path.{_≡_, sym, _∙_, ap, subst}
+use mathlib.Core.Bool.{Bool, true, false}
+use mathlib.Core.Logic.{_⊎_, inr}
+use Prim.Native.Nat.{ℕ, suc, _-_, _≤_, _<_}
 use native.Mathlib.Omega.{arith}
 use Rattle.laws.specs.Counting.{count}
 use Rattle.laws.specs.Orbits.{walk, lowest-on, leads, number, walks}
 use Rattle.laws.proofs.Cases.{cases, bool, true-false, eq-or, lt-or}
 use Rattle.laws.proofs.Counting.{count-zero, count-yes, count-no}
-use Rattle.laws.proofs.Orbits.{count-few, find, In, Turn, walk-stays, walk-apart, walk-end, lowest-walk, lowest-lowest, lowest-under, lowest-stays, leads-lowest, leads-both, leads-new, number-below, meets-start, fresh-few, all-met}
+use Rattle.laws.proofs.Orbits.{count-few, find, In, Turn, walk-stays, lowest-walk, leads-lowest, leads-both, leads-new, number-below, meets-start, all-met}
 
 -- the table t is the table s, with c at x
 pub record Put (s t : ℕ → ℕ) (x c : ℕ) : Type 0 where

@@ -1,8 +1,8 @@
 -- Where a number stands in a list, and how often it stands in a list that was mapped or gathered.
-use mathlib.Core.Bool.{Bool, true, false, cond}
+use mathlib.Core.Bool.{cond}
 use mathlib.Core.List.{List, [], _∷_, _++_, append-nil, append-assoc, map}
-use mathlib.Core.Logic.{_⊎_, inl, inr, _≢_}
-use mathlib.Core.Path.{_≡_, refl, sym, _∙_, ap, subst}
+use mathlib.Core.Logic.{_≢_}
+use mathlib.Core.Path.{_≡_, refl, sym, _∙_, ap}
 use Prim.Native.Nat.{ℕ, zero, suc, _+_, _-_, _≤_, _<_}
 use native.Mathlib.Omega.{arith}
 use lib.Dec.{eqb}
@@ -11,7 +11,7 @@ use borrow.Author.Tests.{eq-eqb, ne-eqb}
 use Rattle.laws.specs.Counting.{many}
 use Rattle.laws.specs.Lists.{from, upto}
 use Rattle.laws.specs.Sorting.{gather}
-use Rattle.laws.proofs.Cases.{cases, bool, eq-or, lt-or}
+use Rattle.laws.proofs.Cases.{cases, eq-or}
 use Rattle.laws.proofs.Counting.{many-nil, many-here, many-other, many-cons}
 use Rattle.laws.proofs.Lists.{All}
 use Rattle.laws.proofs.Occurring.{many-append}

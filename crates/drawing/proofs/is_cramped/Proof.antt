@@ -1,5 +1,4 @@
 -- `is_cramped` buffer by buffer.
-use native.Mathlib.Omega.{arith}
 use Rattle.drawing.proofs.Answering.{cramped-choice, cramped-order, cramped-mesh, cramped-sizes}
 use borrow.Author.Needs.{needs}
 use Rattle.drawing.proofs.is_cramped.Statement.{statement}

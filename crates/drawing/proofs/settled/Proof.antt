@@ -1,5 +1,4 @@
 -- `settled` by the sum.
-use native.Mathlib.Omega.{arith}
 use Rattle.drawing.proofs.Answering.{settled-10, settled-0}
 use borrow.Author.Needs.{needs}
 use Rattle.drawing.proofs.settled.Statement.{statement}

@@ -1,6 +1,5 @@
 -- The walk from d is marked up to x.
 use lib.ListN.{take}
-use native.Mathlib.Omega.{arith}
 use borrow.Author.Needs.{needs}
 use Rattle.laws.specs.Counting.{many}
 use Rattle.drawing.specs.Inside.{none}

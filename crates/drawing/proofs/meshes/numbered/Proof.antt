@@ -1,8 +1,7 @@
 -- The walks with a lowest direction below d have their numbers.
 use Prim.Native.Nat.{_-_}
-use native.Mathlib.Omega.{arith}
 use borrow.Author.Needs.{needs}
-use Rattle.drawing.proofs.Following.{Marking, marking-start, marking-begin, marking-more, marking-pass, marking-done}
+use Rattle.drawing.proofs.Following.{Marking, marking-start, marking-more, marking-pass, marking-done}
 use Rattle.drawing.proofs.meshes.numbered.Statement.{statement}
 use Rattle.drawing.proofs.meshes.numbered.Tie as tie
 

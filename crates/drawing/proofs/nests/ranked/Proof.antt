@@ -1,6 +1,5 @@
 -- The lines below k have their rank.
 use Prim.Native.Nat.{_-_}
-use native.Mathlib.Omega.{arith}
 use Rattle.drawing.specs.Nesting.{rank-in}
 use Rattle.drawing.proofs.Tabulating.{Tabulating, tabulating-start, tabulating-done, ranking-low, ranking-more}
 use borrow.Author.Needs.{needs}

@@ -1,5 +1,4 @@
 -- `side` by its three ways.
-use native.Mathlib.Omega.{arith}
 use Rattle.drawing.proofs.Tabulating.{side-own, side-top, side-none}
 use borrow.Author.Needs.{needs}
 use Rattle.drawing.proofs.nests.side.Statement.{statement}

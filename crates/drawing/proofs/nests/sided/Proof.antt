@@ -1,6 +1,5 @@
 -- The lines below k have their side.
 use Prim.Native.Nat.{_-_}
-use native.Mathlib.Omega.{arith}
 use Rattle.drawing.specs.Nesting.{side-in}
 use Rattle.drawing.proofs.Tabulating.{Tabulating, tabulating-start, tabulating-more, tabulating-done}
 use borrow.Author.Needs.{needs}

@@ -1,6 +1,5 @@
 -- What arrives at a vertex below v has what follows it.
 use Prim.Native.Nat.{_-_}
-use native.Mathlib.Omega.{arith}
 use borrow.Author.Needs.{needs}
 use Rattle.drawing.proofs.Linkable.{Linkeds, linkeds-start, linkeds-more, linkeds-done}
 use Rattle.drawing.proofs.turns.linked.Statement.{statement}

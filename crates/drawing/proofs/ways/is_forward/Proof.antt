@@ -1,5 +1,4 @@
 -- `is_forward` by the kind of the line.
-use native.Mathlib.Omega.{arith}
 use Rattle.drawing.proofs.Starting.{forward-tree, forward-back}
 use borrow.Author.Needs.{needs}
 use Rattle.drawing.proofs.ways.is_forward.Statement.{statement}
