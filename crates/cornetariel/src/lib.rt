@@ -5,6 +5,8 @@
 ghost use mathlib.Core.Path.{_≡_};
 ghost use Prim.Native.Nat.{ℕ, _+_, _*_, _<_};
 ghost use Rattle.search.specs.Orient.{Orient};
+ghost use Rattle.choice.specs.Calls.{FirstChoice, NextChoice};
+ghost use Rattle.text.specs.Calls.{Read, Write};
 ghost use Rattle.cornetariel.specs.Face.{packed, Packed, Small};
 use network::Answer;
 
@@ -18,6 +20,41 @@ pub extern "C" fn cornetariel_orient(
     ensures { λ r. ⌜ Packed (λ a. Orient vertices (now (ends .entry)) (now (kinds .entry)) (now (heights .entry)) a (now (kinds .exit)) (now (heights .exit))) r ⌝ }
 {
     pack(search::orient(vertices, ends, kinds, heights))
+}
+
+#[no_mangle]
+pub extern "C" fn cornetariel_first(
+    vertices: usize,
+    ends: &[u16],
+    choice: &mut [u8],
+    ring: &mut [u16],
+    kinds: &mut [u8],
+) -> u64
+    ensures { λ r. ⌜ Packed (λ a. FirstChoice vertices (now (ends .entry)) (now (choice .entry)) (now (ring .entry)) (now (kinds .entry))
+        a (now (choice .exit)) (now (ring .exit)) (now (kinds .exit))) r ⌝ }
+{
+    pack(choice::first(vertices, ends, choice, ring, kinds))
+}
+
+#[no_mangle]
+pub extern "C" fn cornetariel_next(vertices: usize, ends: &[u16], choice: &mut [u8]) -> u64
+    ensures { λ r. ⌜ Packed (λ a. NextChoice vertices (now (ends .entry)) (now (choice .entry)) a (now (choice .exit))) r ⌝ }
+{
+    pack(choice::next(vertices, ends, choice))
+}
+
+#[no_mangle]
+pub extern "C" fn cornetariel_read(text: &[u8], ends: &mut [u16]) -> u64
+    ensures { λ r. ⌜ Packed (λ a. Read (now (text .entry)) (now (ends .entry)) a (now (ends .exit))) r ⌝ }
+{
+    pack(text::read(text, ends))
+}
+
+#[no_mangle]
+pub extern "C" fn cornetariel_write(vertices: usize, ends: &[u16], text: &mut [u8]) -> u64
+    ensures { λ r. ⌜ Packed (λ a. Write vertices (now (ends .entry)) (now (text .entry)) a (now (text .exit))) r ⌝ }
+{
+    pack(text::write(vertices, ends, text))
 }
 
 // An answer as one number.
