@@ -8,4 +8,12 @@ pub mod Filling
 pub mod Greatest
 pub mod Wherever
 pub mod Running
+pub mod Orbits
+pub mod Numbering
+pub mod Places
+pub mod Sorting
+pub mod Gathering
+pub mod Agreeing
+pub mod Lengths
+pub mod Keeping
 pub mod Eachwise

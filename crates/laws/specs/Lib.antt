@@ -4,3 +4,5 @@ pub mod Counting
 pub mod Lists
 pub mod Checks
 pub mod Running
+pub mod Orbits
+pub mod Sorting

@@ -1,0 +1,43 @@
+// Where a line starts and where it ends: a tree line goes up, a back line down.
+ghost use mathlib.Core.Path.{_≡_};
+ghost use Prim.Native.Nat.{ℕ, _+_, _*_, _≤_, _<_};
+ghost use lib.ListN.{length, getD};
+ghost use Rattle.drawing.specs.Walks.{Tabled, «is-forward», «source-in», «target-in»};
+use network::wide;
+
+pub fn source(k: usize, ends: &[u16], kinds: &[u8], heights: &[u16]) -> usize
+    requires { ⌜ Tabled k (now ends) (now kinds) (now heights) ⌝ }
+    ensures { λ r. ⌜ (r ≡ source-in (now (ends .entry)) (now (kinds .entry)) (now (heights .entry)) k) × (r < 512) ⌝ }
+{
+    if is_forward(k, ends, kinds, heights) {
+        wide(ends[2 * k])
+    } else {
+        wide(ends[2 * k + 1])
+    }
+}
+
+pub fn target(k: usize, ends: &[u16], kinds: &[u8], heights: &[u16]) -> usize
+    requires { ⌜ Tabled k (now ends) (now kinds) (now heights) ⌝ }
+    ensures { λ r. ⌜ (r ≡ target-in (now (ends .entry)) (now (kinds .entry)) (now (heights .entry)) k) × (r < 512) ⌝ }
+{
+    if is_forward(k, ends, kinds, heights) {
+        wide(ends[2 * k + 1])
+    } else {
+        wide(ends[2 * k])
+    }
+}
+
+// Whether the line starts at its first end.
+fn is_forward(k: usize, ends: &[u16], kinds: &[u8], heights: &[u16]) -> bool
+    requires { ⌜ Tabled k (now ends) (now kinds) (now heights) ⌝ }
+    ensures { λ r. ⌜ r ≡ is-forward (now (ends .entry)) (now (kinds .entry)) (now (heights .entry)) k ⌝ }
+{
+    let a = wide(ends[2 * k]);
+    let b = wide(ends[2 * k + 1]);
+    let low = heights[a];
+    let high = heights[b];
+    if kinds[k] == 0 {
+        return low < high;
+    }
+    high <= low
+}
