@@ -24,6 +24,7 @@ use Rattle.text.specs.Calls.{Read, Write}
 use Rattle.groups.specs.Order.{at}
 use Rattle.choice.specs.Choice.{Drawable, Proper, Outdone}
 use Rattle.choice.specs.Calls.{FirstChoice, cramped-first, Untouched as Unwritten, Chosen, Ringed, NextChoice, cramped-next, Unmoved, Stepped}
+use Rattle.drawing.specs.Draw.{Draw, cramped-draw, Balanced, Undrawn, Drew, meshes-in}
 use Rattle.cornetariel.specs.Face.{packed, Packed, Small}
 
 small-refused : (k : ℕ) → k < 256 → Small (refused k)
@@ -68,6 +69,21 @@ small-next n ends choice choice′ a o =
     cases (y .1)
     (λ z. small-is (z .1 .answers) (small-done (back-lines (network n ends)) 0 (omega (arith, backs-few (network n ends) f)) (omega arith)))
     (λ z. small-is (z .1 .answers) (small-refused 9 (omega arith))))
+    (λ y. small-is (y .1 .answers) (small-refused 8 (omega arith))))
+
+pub small-draw : (n : ℕ) (ends choice order mesh sizes order′ mesh′ sizes′ : List ℕ) (a : Answer) → Draw n ends choice order mesh sizes a order′ mesh′ sizes′ → Small a
+small-draw n ends choice order mesh sizes order′ mesh′ sizes′ a o =
+    checked-elim n ends (cramped-draw (length ends / 2) (length choice) (length order) (length mesh) (length sizes)) (Undrawn order mesh sizes a order′ mesh′ sizes′)
+    (check (Proper (tree-in (network n ends)) (at choice))
+    (check (Balanced (network n ends) choice) (Drew (network n ends) choice order mesh sizes a order′ mesh′ sizes′) (Undrawn order mesh sizes a order′ mesh′ sizes′ 10))
+    (Undrawn order mesh sizes a order′ mesh′ sizes′ 8)) o
+    (λ k some few (u : Undrawn order mesh sizes a order′ mesh′ sizes′ k). small-is (u .answers) (small-refused k (omega arith)))
+    (λ f c g.
+    cases g
+    (λ y.
+    cases (y .1)
+    (λ z. small-is (z .1 .answers) (small-done (meshes-in (network n ends) choice) 0 (omega (arith, z .0, f .few-lines)) (omega arith)))
+    (λ z. small-is (z .1 .answers) (small-refused 10 (omega arith))))
     (λ y. small-is (y .1 .answers) (small-refused 8 (omega arith))))
 
 pub small-write : (n : ℕ) (ends text text′ : List ℕ) (a : Answer) → Write n ends text a text′ → Small a

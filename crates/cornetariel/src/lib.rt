@@ -6,6 +6,7 @@ ghost use mathlib.Core.Path.{_≡_};
 ghost use Prim.Native.Nat.{ℕ, _+_, _*_, _<_};
 ghost use Rattle.search.specs.Orient.{Orient};
 ghost use Rattle.choice.specs.Calls.{FirstChoice, NextChoice};
+ghost use Rattle.drawing.specs.Draw.{Draw};
 ghost use Rattle.text.specs.Calls.{Read, Write};
 ghost use Rattle.cornetariel.specs.Face.{packed, Packed, Small};
 use network::Answer;
@@ -41,6 +42,21 @@ pub extern "C" fn cornetariel_next(vertices: usize, ends: &[u16], choice: &mut [
     ensures { λ r. ⌜ Packed (λ a. NextChoice vertices (now (ends .entry)) (now (choice .entry)) a (now (choice .exit))) r ⌝ }
 {
     pack(choice::next(vertices, ends, choice))
+}
+
+#[no_mangle]
+pub extern "C" fn cornetariel_draw(
+    vertices: usize,
+    ends: &[u16],
+    choice: &[u8],
+    order: &mut [u16],
+    mesh: &mut [u16],
+    sizes: &mut [u16],
+) -> u64
+    ensures { λ r. ⌜ Packed (λ a. Draw vertices (now (ends .entry)) (now (choice .entry)) (now (order .entry)) (now (mesh .entry)) (now (sizes .entry))
+        a (now (order .exit)) (now (mesh .exit)) (now (sizes .exit))) r ⌝ }
+{
+    pack(drawing::draw(vertices, ends, choice, order, mesh, sizes))
 }
 
 #[no_mangle]
