@@ -57,7 +57,7 @@ pub fn draw(
     let kinds = found.kinds;
     let heights = found.heights;
     let parents = found.parents;
-    if !choice::sorting::is_aligned(vertices, lines, ends, &kinds, &heights, &parents, choice) {
+    if !choice::is_aligned(vertices, lines, ends, &kinds, &heights, &parents, choice) {
         return Answer::refused(8);
     }
     let returns = fork::forked(vertices, lines, ends, &kinds, &heights, &parents);
