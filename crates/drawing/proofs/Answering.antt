@@ -30,8 +30,9 @@ use Rattle.groups.specs.Order.{at}
 use Rattle.choice.specs.Choice.{Proper}
 use Rattle.choice.specs.Inside.{Decides}
 use Rattle.choice.proofs.Answering.{explored-known, explored-tree}
+use Rattle.clockwise.specs.Ordering.{Orderable}
 use Rattle.drawing.specs.Draw.{meshes-in, size-list-in, cramped-draw, Balanced, Undrawn, Drew, Draw}
-use Rattle.drawing.specs.Ordering.{Orderable, Drawn}
+use Rattle.drawing.specs.Drawing.{Drawn}
 use Rattle.drawing.specs.Settling.{Settling, Settled}
 use Rattle.drawing.proofs.Rooted.{root-low, rooted}
 

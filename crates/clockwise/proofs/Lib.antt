@@ -1,0 +1,11 @@
+pub mod Leaving
+pub mod Discovered
+pub mod Clockwise
+pub mod Wholes
+pub mod Flat
+pub mod Starting
+pub mod Walking
+pub mod Grouping
+pub mod Spreading
+pub mod Stems
+pub mod Ordering
