@@ -36,11 +36,11 @@ use Rattle.groups.specs.Order.{at, First, Next}
 use Rattle.groups.specs.Constraints.{Ring, Obeys}
 use Rattle.groups.specs.Groups.{Tables, tables, fitsb}
 use Rattle.groups.specs.Calls.{Past, Reading, Copied, Advanced, Stuck}
-use Rattle.groups.specs.Rings.{Showing, Shown}
+use Rattle.rings.specs.Rings.{Showing, Shown}
 use Rattle.groups.proofs.Order.{first-same, next-same}
 use Rattle.groups.proofs.Answers.{copied-first, advanced-next, stuck-last, reading}
 use Rattle.groups.proofs.Choosing.{fits-obeys, obeys-fits}
-use Rattle.groups.proofs.Showing.{torn, ring-shown}
+use Rattle.rings.proofs.Showing.{torn, ring-shown}
 use Rattle.choice.specs.Choice.{Drawable, Proper, Outdone}
 use Rattle.choice.specs.Calls.{Kept, cramped-first, Untouched, Chosen, Ringed, FirstChoice}
 use Rattle.ties.specs.Inside.{Closed, Taken, Together, Unkept}

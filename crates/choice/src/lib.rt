@@ -59,7 +59,7 @@ pub fn first(
             Answer::done(lines + 1 - vertices, 0)
         }
         Tie::Tears(b, d, kind) => {
-            let size = groups::ring::show(
+            let size = rings::show(
                 lines,
                 &parity,
                 &from,

@@ -15,6 +15,7 @@ use Rattle.laws.proofs.Lists.{All}
 use Rattle.laws.proofs.Places.{gather-append, gather-next}
 use Rattle.laws.proofs.Gathering.{gather-nil, gather-cons}
 use Rattle.laws.proofs.Lengths.{from-nil, gather-rises, gather-length}
+use Rattle.side.specs.Sides.{left, right}
 use Rattle.fans.specs.Chains.{Chain, chain-from, Copyable, Appended}
 use Rattle.fans.proofs.Hanging.{chain-list, chained-copy}
 use Rattle.clockwise.specs.Walks.{out-in}
@@ -52,31 +53,31 @@ module _ {v at : ℕ} {heights parents order : List ℕ} (P : Begins v at height
 
 -- A line with its groups
 
-module _ {e at : ℕ} {groups after order : List ℕ} (P : Besides e at groups after order) {h : ℕ} (is-h : (h ≡ getD groups (2 * e) 0) × (h < 65536)) where
+module _ {e at : ℕ} {groups after order : List ℕ} (P : Besides e at groups after order) {h : ℕ} (is-h : (h ≡ getD groups (2 * e + left) 0) × (h < 65536)) where
   abbrev L : List ℕ
-  L = out-in groups after (2 * e)
+  L = out-in groups after (2 * e + left)
 
   abbrev R : List ℕ
-  R = out-in groups after (2 * e + 1)
+  R = out-in groups after (2 * e + right)
 
   pub beside-left : Copyable h after at order
   beside-left =
       let g = P .line-in in
-      rw (is-h .0) (chained-copy groups after (out-in groups after) (P .groups) (2 * e) at order (omega arith) (omega (arith, P .room, length-append L (e ∷ R))))
+      rw (is-h .0) (chained-copy groups after (out-in groups after) (P .groups) (2 * e + left) at order (omega arith) (omega (arith, P .room, length-append L (e ∷ R))))
 
   module _ {order₁ : List ℕ} {middle : ℕ} (A : Appended (chain-from after 4096 h) order at order₁ middle) where
-    left-is : chain-from after 4096 h ≡ out-in groups after (2 * e)
+    left-is : chain-from after 4096 h ≡ out-in groups after (2 * e + left)
     left-is = ap (chain-from after 4096) (is-h .0)
 
     pub beside-middle : middle < length order₁
     beside-middle = omega (arith, A .stop, A .long, ap length left-is, P .room, length-append L (e ∷ R))
 
-    module _ {h₂ : ℕ} (is-h₂ : (h₂ ≡ getD groups (2 * e + 1) 0) × (h₂ < 65536)) where
+    module _ {h₂ : ℕ} (is-h₂ : (h₂ ≡ getD groups (2 * e + right) 0) × (h₂ < 65536)) where
       pub beside-right : Copyable h₂ after (middle + 1) (set order₁ middle e)
       beside-right =
           let g = P .line-in in
           rw (is-h₂ .0)
-          (chained-copy groups after (out-in groups after) (P .groups) (2 * e + 1) (middle + 1) (set order₁ middle e) (omega arith)
+          (chained-copy groups after (out-in groups after) (P .groups) (2 * e + right) (middle + 1) (set order₁ middle e) (omega arith)
           (omega (arith, A .stop, A .long, ap length left-is, P .room, length-append L (e ∷ R), length-set order₁ middle e)))
 
       pub beside-done : {order₂ : List ℕ} {r : ℕ} → Appended (chain-from after 4096 h₂) (set order₁ middle e) (middle + 1) order₂ r → Appended (item-in groups after e) order at order₂ r

@@ -1,29 +1,25 @@
 -- The walk as code: at v the lines of the fan that were taken are done, and what they led to is written down. A line on the path is known by the height that
 -- it leads up to, so that the stem of a back line is found by the height at which it ends.
-use mathlib.Core.Bool.{Bool, true, false, cond}
-use mathlib.Core.List.{List, [], _∷_, _++_, append-nil, append-assoc}
+use mathlib.Core.List.{List, [], _∷_, _++_, append-nil}
 use mathlib.Core.Logic.{_≢_}
 use mathlib.Core.Path.{_≡_, refl, sym, _∙_, ap, subst}
-use Prim.Native.Nat.{ℕ, zero, suc, _+_, _-_, _≤_, _<_}
-use native.Mathlib.Numerals.{add-one}
+use Prim.Native.Nat.{ℕ, zero, suc, _+_, _≤_, _<_}
 use native.Mathlib.Omega.{arith}
 use lib.Dec.{eqb}
 use lib.ListN.{length, getD, set, take, length-set, length-append}
-use lib.Seq.{getD-set-same, getD-set-other, take-suc-set}
-use borrow.Author.Tests.{eq-eqb, ne-eqb}
+use lib.Seq.{getD-set-same, getD-set-other}
 use Rattle.laws.specs.Sorting.{gather}
 use Rattle.laws.proofs.Cases.{cases, bool, eq-or}
-use Rattle.laws.proofs.Lists.{All, all-map, all-append}
-use Rattle.laws.proofs.Places.{gather-append}
+use Rattle.laws.proofs.Lists.{All, all-map}
 use Rattle.laws.proofs.Gathering.{gather-nil, gather-cons}
 use Rattle.tree.specs.Tree.{Tree, tree-of}
-use Rattle.tree.specs.Words.{TreeLine, Above, Leaves}
+use Rattle.tree.specs.Words.{Leaves}
 use Rattle.tree.proofs.Searched.{Searched}
 use Rattle.tree.proofs.Grown.{searched}
 use Rattle.fans.specs.Chains.{none, Chain, chain-from}
 use Rattle.fans.proofs.Hanging.{chain-list}
 use Rattle.clockwise.specs.Order.{discovered}
-use Rattle.clockwise.specs.Walks.{Fanned, Tabled, target-in, out-in, Walkable, On-path, Stem, Setting-out, Walked}
+use Rattle.clockwise.specs.Walks.{Fanned, Tabled, out-in, Walkable, On-path, Stem, Setting-out, Walked}
 use Rattle.clockwise.proofs.Discovered.{by-way, discovered-more, discovered-same}
 
 chain-short : (nexts : List ℕ) (k h : ℕ) → length (chain-from nexts k h) ≤ k
@@ -193,156 +189,6 @@ module _ {n m : ℕ} {ends kind height parent heads nexts : List ℕ} where
         chain-list nexts 4096 (getD nexts e 0) (A .later) (A .chain)
         (all-map (Leaves (tree-of n m ends kind height parent) v) (λ x. x < 2048) (A .later) (λ x le. omega (arith, le .line .below, W .few-lines)) (A .leaving)) (omega arith) in
         omega (arith, ap length list, A .left)
-
-    module _ (d : e ≡ 65535 → ⊥) {w : ℕ} (is-w : (w ≡ target-in ends kind height e) × (w < 512)) where
-      goal : S .target e ≡ w
-      goal = sym (is-w .0)
-
-      -- up a tree line
-
-      module _ (tree : getD kind e 0 ≡ 0) where
-        is-tree : S .tree e ≡ true
-        is-tree = eq-eqb (getD kind e 0) 0 tree
-
-        up : S .height w ≡ suc (S .height v)
-        up =
-            let A = ahead d in
-            ap (S .height) (sym goal) ∙ X .rise e (A .leaves .line, is-tree) ∙ ap (λ (y : ℕ). suc (S .height y)) (A .leaves .from)
-
-        way : B e ≡ discovered S out n w
-        way = ap (λ (b : Bool). cond b (discovered S out n (S .target e)) (e ∷ [])) is-tree ∙ ap (discovered S out n) goal
-
-        pub walking-less : n - getD height w 0 < n - getD height v 0
-        walking-less = omega (arith, up, G .height-in)
-
-        pub walking-up : Setting-out (tree-of n m ends kind height parent) (out-in heads nexts) w at path found stems
-        walking-up =
-            let A = ahead d in
-            record {
-              vertex-in = subst (λ (y : ℕ). y < n) goal (X .target-in e (A .leaves .line));
-              path-long = G .path-long;
-              found-long = G .found-long;
-              stems-long = G .stems-long;
-              room = omega (arith, A .room, ap length way);
-              path-known = λ j h.
-                  let o = G .path-known j (omega (arith, up)) in
-                  let step : Above S v w = subst (λ (y : ℕ). Above S v y) goal (subst (λ (y : ℕ). Above S y (S .target e)) (A .leaves .from) (X .above-line e (A .leaves .line, is-tree))) in
-                  record { through = o .through; through-in = o .through-in; above = X .above-trans (o .through) v w (o .above) step; level = o .level; line = o .line };
-              stems-known = G .stems-known;
-            }
-
-        pub walking-back : {at′ : ℕ} {path′ found′ stems′ : List ℕ} → Walked (tree-of n m ends kind height parent) (out-in heads nexts) w at path found at′ path′ found′ stems′
-            → {after : ℕ} → (after ≡ getD nexts e 0) × (after < 65536) → Walking n m ends kind height parent heads nexts v count path₀ found₀ path′ found′ stems′ at′ after
-        walking-back {at′} {path′} {found′} {stems′} R is-after =
-            let A = ahead d in
-            let P = R .appended in
-            let D = discovered S out n w in
-            let more : gather B (G .done ++ (e ∷ [])) ≡ gather B (G .done) ++ D =
-            gather-append B (G .done) (e ∷ [])
-            ∙ ap (λ (l : List ℕ). gather B (G .done) ++ l) (gather-cons B e [] ∙ ap (λ (l : List ℕ). B e ++ l) (gather-nil B) ∙ append-nil (B e) ∙ way) in
-            record {
-              walkable = W;
-              vertex-in = G .vertex-in;
-              height-in = G .height-in;
-              path-long = R .path-long;
-              found-long = P .long ∙ G .found-long;
-              found-same = P .long ∙ G .found-same;
-              stems-long = R .stems-long;
-              done = G .done ++ (e ∷ []);
-              rest = A .later;
-              fan = A .fan ∙ sym (append-assoc (G .done) (e ∷ []) (A .later));
-              chain = subst (λ (y : ℕ). Chain nexts y (A .later)) (sym (is-after .0)) (A .chain);
-              leaving = A .leaving;
-              here = omega (arith, P .stop, G .here, ap length more, length-append (gather B (G .done)) D);
-              room = omega (arith, A .room, P .stop, ap length way);
-              written = P .written ∙ ap (λ (l : List ℕ). l ++ D) (G .written) ∙ append-assoc (take count found₀) (gather B (G .done)) D ∙ ap (λ (l : List ℕ). take count found₀ ++ l) (sym more);
-              path-known = λ j h.
-                  let o = G .path-known j h in
-                  record { through = o .through; through-in = o .through-in; above = o .above; level = o .level; line = R .path-kept j (omega (arith, up)) ∙ o .line };
-              path-kept = λ j h. R .path-kept j (omega (arith, up)) ∙ G .path-kept j h;
-              stems-known = R .stems-known;
-            }
-
-      -- a back line
-
-      module _ (no-tree : getD kind e 0 ≡ 0 → ⊥) where
-        is-back : S .tree e ≡ false
-        is-back = ne-eqb (getD kind e 0) 0 no-tree
-
-        way-back : B e ≡ e ∷ []
-        way-back = ap (λ (b : Bool). cond b (discovered S out n (S .target e)) (e ∷ [])) is-back
-
-        lower : S .height w < S .height v
-        lower =
-            let A = ahead d in
-            let p : S .height (S .target e) ≡ S .height w = ap (S .height) goal in
-            let q : S .height (S .source e) ≡ S .height v = ap (S .height) (A .leaves .from) in
-            omega (arith, X .fall e (A .leaves .line, is-back))
-
-        pub walking-stem-in : {h : ℕ} → (h ≡ getD height w 0) × (h < 65536) → h + 1 < 512
-        walking-stem-in is-h = omega (arith, is-h .0, lower, G .height-in, W .few-vertices)
-
-        pub walking-room : at < 2048
-        walking-room = let A = ahead d in omega (arith, A .room, ap length way-back)
-
-        stem : (t : ℕ) → On-path S v (S .height w + 1) t → Stem S e t
-        stem t o =
-            let A = ahead d in
-            let u = o .through in
-            let some : 0 < S .height u = omega (arith, o .level) in
-            let P = X .parent u (o .through-in) some in
-            let l : TreeLine S t = subst (λ (y : ℕ). TreeLine S y) (sym (o .line)) (P .0) in
-            let to-u : S .target t ≡ u = ap (S .target) (o .line) ∙ P .1 in
-            let to-height : S .height (S .target t) ≡ S .height u = ap (S .height) to-u in
-            let from-e : S .source e ≡ v = A .leaves .from in
-            let below : Above S (S .source t) v = X .above-trans (S .source t) (S .target t) v (X .above-line t l) (subst (λ (y : ℕ). Above S y v) (sym to-u) (o .above)) in
-            let ends-below : Above S (S .target e) v = subst (λ (y : ℕ). Above S (S .target e) y) from-e (X .trail e (A .leaves .line, is-back)) in
-            let same : S .height (S .target e) ≡ S .height w = ap (S .height) goal in
-            record {
-              is-tree = l;
-              meets = X .above-level (S .source t) (S .target e) v below ends-below (omega (arith, X .rise t l, o .level));
-              over = subst (λ (y : ℕ). Above S (S .target t) y) (sym from-e) (subst (λ (y : ℕ). Above S y v) (sym to-u) (o .above));
-            }
-
-        pub walking-found : {h : ℕ} → (h ≡ getD height w 0) × (h < 65536) → {after : ℕ} → (after ≡ getD nexts e 0) × (after < 65536)
-            → Walking n m ends kind height parent heads nexts v count path₀ found₀ path (set found at e) (set stems e (getD path (h + 1) 0)) (at + 1) after
-        walking-found {h} is-h is-after =
-            let A = ahead d in
-            let t = getD path (h + 1) 0 in
-            let is-stem : Stem S e t = stem t (subst (λ (y : ℕ). On-path S v (y + 1) (getD path (h + 1) 0)) (is-h .0) (G .path-known (h + 1) (omega (arith, is-h .0, lower)))) in
-            let stems′ = set stems e t in
-            let more : gather B (G .done ++ (e ∷ [])) ≡ gather B (G .done) ++ (e ∷ []) =
-            gather-append B (G .done) (e ∷ [])
-            ∙ ap (λ (l : List ℕ). gather B (G .done) ++ l) (gather-cons B e [] ∙ ap (λ (l : List ℕ). B e ++ l) (gather-nil B) ∙ append-nil (B e) ∙ way-back) in
-            let now : take (at + 1) (set found at e) ≡ take at found ++ (e ∷ []) = rw (add-one at) (take-suc-set found at e (omega (arith, walking-room, G .found-long))) in
-            let at-e : getD stems′ e 0 ≡ t = getD-set-same stems e t 0 (omega (arith, A .line-in, W .few-lines, G .stems-long)) in
-            let new : Stem S e (getD stems′ e 0) = subst (λ (y : ℕ). Stem S e y) (sym at-e) is-stem in
-            let kept : (b : ℕ) → Stem S b (getD stems b 0) → Stem S b (getD stems′ b 0) = λ b k.
-            cases (eq-or b e)
-            (λ z. subst (λ (y : ℕ). Stem S y (getD stems′ y 0)) (sym z) new)
-            (λ z. subst (λ (y : ℕ). Stem S b y) (sym (getD-set-other stems e b t 0 z)) k) in
-            record {
-              walkable = W;
-              vertex-in = G .vertex-in;
-              height-in = G .height-in;
-              path-long = G .path-long;
-              found-long = length-set found at e ∙ G .found-long;
-              found-same = length-set found at e ∙ G .found-same;
-              stems-long = length-set stems e t ∙ G .stems-long;
-              done = G .done ++ (e ∷ []);
-              rest = A .later;
-              fan = A .fan ∙ sym (append-assoc (G .done) (e ∷ []) (A .later));
-              chain = subst (λ (y : ℕ). Chain nexts y (A .later)) (sym (is-after .0)) (A .chain);
-              leaving = A .leaving;
-              here = omega (arith, G .here, ap length more, length-append (gather B (G .done)) (e ∷ []));
-              room = omega (arith, A .room, ap length way-back);
-              written = now ∙ ap (λ (l : List ℕ). l ++ (e ∷ [])) (G .written) ∙ append-assoc (take count found₀) (gather B (G .done)) (e ∷ []) ∙ ap (λ (l : List ℕ). take count found₀ ++ l) (sym more);
-              path-known = G .path-known;
-              path-kept = G .path-kept;
-              stems-known = subst (λ (l : List ℕ). All (λ b. Stem S b (getD stems′ b 0)) l) (sym now)
-                  (all-append (λ b. Stem S b (getD stems′ b 0)) (take at found) (e ∷ [])
-                  (all-map (λ b. Stem S b (getD stems b 0)) (λ b. Stem S b (getD stems′ b 0)) (take at found) kept (G .stems-known)) (new, tt));
-            }
 
     -- the fan is done
     pub walking-done : e ≡ 65535 → Walked (tree-of n m ends kind height parent) (out-in heads nexts) v count path₀ found₀ at path found stems

@@ -8,6 +8,7 @@ use lib.ListN.{getD, length, take}
 use Rattle.laws.specs.Counting.{many}
 use Rattle.laws.specs.Lists.{keep, upto}
 use Rattle.laws.specs.Sorting.{gather}
+use Rattle.side.specs.Sides.{left, right}
 use Rattle.fans.specs.Chains.{Chained}
 use Rattle.clockwise.specs.Walks.{out-in}
 
@@ -31,7 +32,7 @@ groups-in count found stems sides g = reverse (keep (λ b. eqb (group-of stems s
 
 -- A line with its two groups beside it.
 abbrev pub item-in : List ℕ → List ℕ → ℕ → List ℕ
-item-in heads nexts e = out-in heads nexts (2 * e) ++ (e ∷ out-in heads nexts (2 * e + 1))
+item-in heads nexts e = out-in heads nexts (2 * e + left) ++ (e ∷ out-in heads nexts (2 * e + right))
 
 pub record Besides (e at : ℕ) (heads nexts order : List ℕ) : Type 0 where
   pub line-in : e < 2048

@@ -12,6 +12,7 @@ use fans::chains;
 use fans::chains::Chains;
 use fans::nests;
 use network::wide;
+use side::Side;
 
 // The flat order, and where each vertex's part of it begins; after the last vertex, where it ends.
 pub struct Order {
@@ -68,7 +69,7 @@ pub fn ordered(
 }
 
 // For each line and each side, the lines found that come in from above it, those found later first.
-pub fn grouped(count: usize, found: &[u16], stems: &[u16], sides: &[u8]) -> Chains
+fn grouped(count: usize, found: &[u16], stems: &[u16], sides: &[u8]) -> Chains
     requires { ⌜ Groupable count (now found) (now stems) (now sides) ⌝ }
     ensures { λ r. ⌜ Chained (r .heads) (r .nexts) (groups-in count (now (found .entry)) (now (stems .entry)) (now (sides .entry))) ⌝ }
 {
@@ -86,7 +87,7 @@ pub fn grouped(count: usize, found: &[u16], stems: &[u16], sides: &[u8]) -> Chai
 }
 
 // The whole order.
-pub fn laid(
+fn laid(
     vertices: usize,
     heights: &[u16],
     parents: &[u16],
@@ -152,7 +153,9 @@ fn beside(e: usize, at: usize, groups: &[u16], after: &[u16], order: &mut [u16])
     requires { ⌜ Besides e at (now groups) (now after) (now order) ⌝ }
     ensures { λ r. ⌜ Appended (item-in (now (groups .entry)) (now (after .entry)) e) (now (order .entry)) at (now (order .exit)) r ⌝ }
 {
-    let middle = chains::copied(wide(groups[2 * e]), after, at, order);
+    let before = 2 * e + Side::LEFT as usize;
+    let behind = 2 * e + Side::RIGHT as usize;
+    let middle = chains::copied(wide(groups[before]), after, at, order);
     order[middle] = e as u16;
-    chains::copied(wide(groups[2 * e + 1]), after, middle + 1, order)
+    chains::copied(wide(groups[behind]), after, middle + 1, order)
 }

@@ -6,7 +6,7 @@ use network::wide;
 
 // Walks up from v. `found` has the back lines in the order of their discovery; `stems` has for each the tree line from above which it comes in to the
 // vertex where it ends; `path` has the tree lines on the way to v, by the heights that they lead up to. Answers how many lines are found.
-pub fn walk(
+pub(crate) fn walk(
     vertices: usize,
     lines: usize,
     v: usize,

@@ -4,7 +4,7 @@ ghost use Prim.Native.Nat.{ℕ, _+_, _*_, _<_};
 ghost use Rattle.clockwise.specs.Walks.{Tabled, «is-forward», «target-in»};
 use network::wide;
 
-pub fn target(k: usize, ends: &[u16], kinds: &[u8], heights: &[u16]) -> usize
+pub(crate) fn target(k: usize, ends: &[u16], kinds: &[u8], heights: &[u16]) -> usize
     requires { ⌜ Tabled k (now ends) (now kinds) (now heights) ⌝ }
     ensures { λ r. ⌜ (r ≡ target-in (now (ends .entry)) (now (kinds .entry)) (now (heights .entry)) k) × (r < 512) ⌝ }
 {

@@ -24,8 +24,9 @@ use Rattle.search.specs.Machine.{tree-in}
 use Rattle.search.specs.Orient.{Explored, unsearched, searched as searched-of}
 use Rattle.search.specs.declared.Search.{Search}
 use Rattle.search.proofs.Calls.{explored}
-use Rattle.fork.specs.Inside.{Known, Tabled}
-use Rattle.fork.specs.declared.Forks.{Forks}
+use Rattle.fork.specs.Inside.{Known}
+use Rattle.returns.specs.Inside.{Tabled}
+use Rattle.returns.specs.declared.Forks.{Forks}
 use Rattle.groups.specs.Order.{at}
 use Rattle.choice.specs.Choice.{Proper}
 use Rattle.choice.specs.Inside.{Decides}

@@ -30,7 +30,7 @@ use Rattle.clockwise.specs.Order.{order-at, flat}
 use Rattle.clockwise.specs.Laying.{Laid-out}
 use Rattle.clockwise.specs.Ordering.{Orderable}
 use Rattle.clockwise.proofs.Flat.{flat-next, flat-rises, flat-full}
-use Rattle.clockwise.proofs.Ordering.{all-live, order-fits, order-whole}
+use Rattle.clockwise.proofs.Ranking.{all-live, order-fits, order-whole}
 use Rattle.drawing.specs.Drawing.{Drawn}
 
 -- a list by its places

@@ -51,7 +51,7 @@ pub fn draw(
     if !choice::is_aligned(vertices, lines, ends, &kinds, &heights, &parents, choice) {
         return Answer::refused(8);
     }
-    let returns = fork::forked(vertices, lines, ends, &kinds, &heights, &parents);
+    let returns = returns::forked(vertices, lines, ends, &kinds, &heights, &parents);
     let sources = returns.sources;
     let lows = returns.lows;
     let highs = returns.highs;
@@ -129,7 +129,7 @@ fn settled(
 }
 
 // The drawing that a choice gives. A lone vertex has one mesh, with no line on it.
-pub fn drawn(
+fn drawn(
     vertices: usize,
     lines: usize,
     ends: &[u16],

@@ -14,8 +14,9 @@ use Rattle.tree.specs.Returns.{backb}
 use Rattle.tree.proofs.Searched.{Searched}
 use Rattle.tree.proofs.Grown.{searched}
 use Rattle.fork.specs.Link.{Link, to-top, tops, to-bottom, turned}
-use Rattle.fork.specs.Inside.{Known, Tabled}
-use Rattle.fork.specs.declared.Forks.{Forks}
+use Rattle.fork.specs.Inside.{Known}
+use Rattle.returns.specs.Inside.{Tabled}
+use Rattle.returns.specs.declared.Forks.{Forks}
 use Rattle.fork.proofs.Links.{overlap-tree, overlap-turned}
 use Rattle.fork.proofs.Rule.{fork-turned}
 use Rattle.groups.specs.Groups.{Tables, tables}

@@ -32,7 +32,7 @@ pub fn grouped(
     requires { ⌜ Known vertices lines (now ends) (now kinds) (now heights) (now parents) ⌝ }
     ensures { λ r. ⌜ Grouping (tree-of vertices lines (now (ends .entry)) (now (kinds .entry)) (now (heights .entry)) (now (parents .entry))) r ⌝ }
 {
-    let returns = fork::forked(vertices, lines, ends, kinds, heights, parents);
+    let returns = returns::forked(vertices, lines, ends, kinds, heights, parents);
     let sources = returns.sources;
     let stops = returns.ends;
     let lows = returns.lows;

@@ -6,11 +6,26 @@ use borrow.Author.Needs.{needs}
 use Rattle.clockwise.proofs.beside.Statement.{statement}
 use Rattle.clockwise.proofs.beside.Tie as tie
 
+mul-before : tie.Need-mul-before
+mul-before c = search needs
+
+cast-before : tie.Need-cast-before
+cast-before c = search needs
+
+add-before : tie.Need-add-before
+add-before c = search needs
+
+mul-behind : tie.Need-mul-behind
+mul-behind c = search needs
+
+cast-behind : tie.Need-cast-behind
+cast-behind c = search needs
+
+add-behind : tie.Need-add-behind
+add-behind c = search needs
+
 mul-wide : tie.Need-mul-wide
 mul-wide c = search needs
-
-mul-wide-2 : tie.Need-mul-wide-2
-mul-wide-2 c = search needs
 
 shared-slice-read-wide : tie.Need-shared-slice-read-wide
 shared-slice-read-wide c = search needs
@@ -30,14 +45,8 @@ mul-order c = omega (arith, beside-middle (c .before .before .before .before .be
 slice-write-order : tie.Need-slice-write-order
 slice-write-order c = omega (arith, beside-middle (c .before .before .before .before .before .before .before .before .before .pre) (c .before .before .before .before .wide .ensures) (c .before .before .copied .ensures))
 
-mul-wide-3 : tie.Need-mul-wide-3
-mul-wide-3 c = search needs
-
-add-wide : tie.Need-add-wide
-add-wide c = search needs
-
-mul-wide-4 : tie.Need-mul-wide-4
-mul-wide-4 c = search needs
+mul-wide-2 : tie.Need-mul-wide-2
+mul-wide-2 c = search needs
 
 shared-slice-read-wide-2 : tie.Need-shared-slice-read-wide-2
 shared-slice-read-wide-2 c = search needs
@@ -61,17 +70,20 @@ pub beside-spec : {M : Type 1} → statement M
 beside-spec =
     tie.close
     (tie.spec
+    mul-before
+    cast-before
+    add-before
+    mul-behind
+    cast-behind
+    add-behind
     mul-wide
-    mul-wide-2
     shared-slice-read-wide
     wide-requires
     copied-requires
     cast-order
     mul-order
     slice-write-order
-    mul-wide-3
-    add-wide
-    mul-wide-4
+    mul-wide-2
     shared-slice-read-wide-2
     wide-requires-2
     add-copied

@@ -1,5 +1,7 @@
 -- Each step gives the next what it asks.
-use Rattle.clockwise.proofs.Ordering.{order-rankable, order-sidable, order-ranked, order-fannable, order-walkable, order-sets-out, order-groupable, order-layable, order-done}
+use Rattle.clockwise.proofs.Ranking.{order-rankable, order-sidable, order-ranked, order-fannable, order-walkable}
+use Rattle.clockwise.proofs.Collecting.{order-sets-out, order-groupable}
+use Rattle.clockwise.proofs.Ordering.{order-layable, order-done}
 use borrow.Author.Needs.{needs}
 use Rattle.clockwise.proofs.ordered.Statement.{statement}
 use Rattle.clockwise.proofs.ordered.Tie as tie

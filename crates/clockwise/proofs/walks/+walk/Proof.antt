@@ -6,7 +6,9 @@ use borrow.Author.Needs.{needs}
 use borrow.Fn.Kinds.{In}
 use borrow.Fn.PlainCycle.{Measures, is, falls, and}
 use Rattle.fans.specs.Chains.{chain-from}
-use Rattle.clockwise.proofs.Walking.{Walking, walking-height, walking-start, walking-tabled, walking-line, walking-left, walking-less, walking-up, walking-back, walking-stem-in, walking-room, walking-found, walking-done, walked-from}
+use Rattle.clockwise.proofs.Walking.{Walking, walking-height, walking-start, walking-tabled, walking-line, walking-left, walking-done, walked-from}
+use Rattle.clockwise.proofs.Rising.{walking-less, walking-up, walking-back}
+use Rattle.clockwise.proofs.Finding.{walking-stem-in, walking-room, walking-found}
 use Rattle.clockwise.proofs.walks.walk.Reads as walk
 use Rattle.clockwise.proofs.walks.walk.Kinds as walk-kinds
 use Rattle.clockwise.proofs.walks.+walk.Lts-walk as lts
