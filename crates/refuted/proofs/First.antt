@@ -27,9 +27,9 @@ use Rattle.fork.proofs.Rule.{legal-same, legal-different, same-of, different-of
 use Rattle.groups.specs.Order.{at, Agree, Before}
 use Rattle.choice.specs.Choice.{Drawable, Proper}
 use Rattle.choice.specs.Calls.{FirstChoice}
-use Rattle.listing.specs.Listing.{Accepted}
-use Rattle.listing.proofs.Granted.{accepted-by, properb, proper-by, improper-by, proper-agree}
-use Rattle.listing.proofs.Outcomes.{first-drawable, first-undrawable}
+use Rattle.listed.specs.Listing.{Accepted}
+use Rattle.listed.proofs.Granted.{accepted-by, properb, proper-by, improper-by, proper-agree}
+use Rattle.listed.proofs.Outcomes.{first-drawable, first-undrawable}
 
 -- A triangle, 0-1, 1-2, 2-0, can be drawn: 7 is not allowed
 

@@ -29,9 +29,9 @@ use Rattle.groups.specs.Order.{at, Before}
 use Rattle.groups.proofs.Order.{next-moves}
 use Rattle.choice.specs.Choice.{Proper, Outdone}
 use Rattle.choice.specs.Calls.{NextChoice, Stepped, Unmoved}
-use Rattle.listing.specs.Listing.{Accepted}
-use Rattle.listing.proofs.Granted.{accepted-by, properb, proper-by, improper-by}
-use Rattle.listing.proofs.Outcomes.{next-says, next-improper, next-outdone, next-last}
+use Rattle.listed.specs.Listing.{Accepted}
+use Rattle.listed.proofs.Granted.{accepted-by, properb, proper-by, improper-by}
+use Rattle.listed.proofs.Outcomes.{next-says, next-improper, next-outdone, next-last}
 
 -- Any network: what comes next is not what was lent
 

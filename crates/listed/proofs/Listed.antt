@@ -30,10 +30,10 @@ use Rattle.groups.specs.Order.{at, Agree, First, Next, Last, Listed, start, mor
 use Rattle.groups.proofs.Order.{agree-sym, before-same, first-agree}
 use Rattle.choice.specs.Choice.{Drawable, Proper, Outdone}
 use Rattle.choice.specs.Calls.{Kept, cramped-first, Untouched, Chosen, Ringed, FirstChoice, cramped-next, Unmoved, Stepped, NextChoice}
-use Rattle.listing.specs.Listing.{Accepted, Called, begun, went-on, Lists}
-use Rattle.listing.proofs.Granted.{fit, passed, properb, proper-of, proper-yes, proper-agree}
-use Rattle.listing.proofs.Outcomes.{first-by, next-says, next-outdone, next-last, next-by}
-use Rattle.listing.proofs.Enumerating.{next-agree, listed-rising, listed-once, listed-good, listing-by-test}
+use Rattle.listed.specs.Listing.{Accepted, Called, begun, went-on, Lists}
+use Rattle.listed.proofs.Granted.{fit, passed, properb, proper-of, proper-yes, proper-agree}
+use Rattle.listed.proofs.Outcomes.{first-by, next-says, next-outdone, next-last, next-by}
+use Rattle.listed.proofs.Enumerating.{next-agree, listed-rising, listed-once, listed-good, listing-by-test}
 
 -- What the calls hand back
 

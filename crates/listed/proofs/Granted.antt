@@ -27,7 +27,7 @@ use Rattle.fork.proofs.Choices.{aligned-agree}
 use Rattle.groups.specs.Order.{Agree}
 use Rattle.choice.specs.Choice.{Proper}
 use Rattle.choice.specs.Calls.{cramped-first, cramped-next}
-use Rattle.listing.specs.Listing.{Accepted}
+use Rattle.listed.specs.Listing.{Accepted}
 
 -- Networks that no check refuses
 

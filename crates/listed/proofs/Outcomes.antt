@@ -10,8 +10,8 @@ use Rattle.search.specs.Machine.{tree-in}
 use Rattle.groups.specs.Order.{at}
 use Rattle.choice.specs.Choice.{Drawable, Proper, Outdone}
 use Rattle.choice.specs.Calls.{cramped-first, Untouched, Chosen, Ringed, FirstChoice, cramped-next, Unmoved, Stepped, NextChoice}
-use Rattle.listing.specs.Listing.{Accepted}
-use Rattle.listing.proofs.Granted.{grant, granted, room-first, room-next}
+use Rattle.listed.specs.Listing.{Accepted}
+use Rattle.listed.proofs.Granted.{grant, granted, room-first, room-next}
 
 module _ (n : ℕ) (ends : List ℕ) (a : Accepted n ends) where
   -- First choice

@@ -20,10 +20,10 @@ use Rattle.fork.specs.Fork.{forkb, groupb, sameb, differentb, levelb, wherever,
 use Rattle.groups.specs.Order.{at, Last}
 use Rattle.choice.specs.Choice.{Proper}
 use Rattle.choice.specs.Calls.{NextChoice}
-use Rattle.listing.specs.Listing.{Accepted, Called, begun, went-on, Lists}
-use Rattle.listing.proofs.Granted.{accepted-by, properb, proper-of, proper-by}
-use Rattle.listing.proofs.Enumerating.{listed-good}
-use Rattle.listing.proofs.Listed.{next-zero, called-listed, calls-list}
+use Rattle.listed.specs.Listing.{Accepted, Called, begun, went-on, Lists}
+use Rattle.listed.proofs.Granted.{accepted-by, properb, proper-of, proper-by}
+use Rattle.listed.proofs.Enumerating.{listed-good}
+use Rattle.listed.proofs.Listed.{next-zero, called-listed, calls-list}
 
 module _ (n : ℕ) (ends : List ℕ) (none-back : (b : ℕ) → b < length ends / 2 → backb (tree-in (network n ends)) b ≡ false) where
   -- nothing comes after a choice
