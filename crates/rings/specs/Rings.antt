@@ -1,5 +1,5 @@
 -- How a ring is read off the tables after a conflict, in steps that the functions tell each other. A reader of the calls' statements need not
--- believe any of it: what a ring is stands in specs/Constraints.antt.
+-- believe any of it: what a ring is stands in groups/specs/Constraints.antt.
 use mathlib.Core.Bool.{Bool, true, false, cond}
 use mathlib.Core.List.{List}
 use mathlib.Core.Logic.{_⊎_}
