@@ -1,11 +1,11 @@
-// Small hexadecimal digits, one at a time and four at a time.
+// Small hexadecimal digits, one at a time, two at a time and four at a time.
 ghost use mathlib.Core.Bool.{true};
 ghost use mathlib.Core.Path.{_≡_};
 ghost use Prim.Native.Nat.{_+_, _≤_, _<_};
 ghost use lib.ListN.{length};
 ghost use lib.Seq.{sets};
-ghost use Rattle.text.specs.Text.{digit, «is-digit», value, digits};
-ghost use Rattle.text.specs.Inside.{«is-word», Word, Number};
+ghost use Rattle.digits.specs.Digits.{digit, «is-digit», value, digits};
+ghost use Rattle.digits.specs.Inside.{«is-word», Word, Number};
 
 // Whether a byte is a digit.
 fn is_digit(byte: u8) -> bool
@@ -46,7 +46,7 @@ fn digit(d: u16) -> u8
 }
 
 // Whether four digits stand at a place.
-pub(crate) fn is_word(text: &[u8], at: usize) -> bool
+pub fn is_word(text: &[u8], at: usize) -> bool
     requires { ⌜ at + 4 ≤ length (now text) ⌝ }
     ensures { λ r. ⌜ r ≡ «is-word» (now (text .entry)) at ⌝ }
 {
@@ -63,7 +63,7 @@ pub(crate) fn is_word(text: &[u8], at: usize) -> bool
 }
 
 // The number in the four digits at a place.
-pub(crate) fn word_at(text: &[u8], at: usize) -> u16
+pub fn word_at(text: &[u8], at: usize) -> u16
     requires { ⌜ Word (now text) at ⌝ }
     ensures { λ r. ⌜ Number (now (text .entry)) at r ⌝ }
 {
@@ -74,16 +74,8 @@ pub(crate) fn word_at(text: &[u8], at: usize) -> u16
     16 * (16 * (16 * a + b) + c) + d
 }
 
-// The same, as an index.
-pub(crate) fn number_at(text: &[u8], at: usize) -> usize
-    requires { ⌜ Word (now text) at ⌝ }
-    ensures { λ r. ⌜ Number (now (text .entry)) at r ⌝ }
-{
-    network::wide(word_at(text, at))
-}
-
 // Writes a number in four digits from a place on.
-pub(crate) fn put_word(text: &mut [u8], at: usize, x: u16)
+pub fn put_word(text: &mut [u8], at: usize, x: u16)
     requires { ⌜ at + 4 ≤ length (now text) ⌝ }
     ensures { λ _. ⌜ now (text .exit) ≡ sets (now (text .entry)) at (digits 4 x) ⌝ }
 {
@@ -94,4 +86,14 @@ pub(crate) fn put_word(text: &mut [u8], at: usize, x: u16)
     text[at + 1] = digit(b % 16);
     text[at + 2] = digit(c % 16);
     text[at + 3] = digit(x % 16);
+}
+
+// Writes a number in two digits from a place on.
+pub fn put_pair(text: &mut [u8], at: usize, x: u16)
+    requires { ⌜ at + 2 ≤ length (now text) ⌝ }
+    ensures { λ _. ⌜ now (text .exit) ≡ sets (now (text .entry)) at (digits 2 x) ⌝ }
+{
+    let a = x / 16;
+    text[at] = digit(a % 16);
+    text[at + 1] = digit(x % 16);
 }

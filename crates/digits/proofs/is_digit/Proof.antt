@@ -1,7 +1,7 @@
 -- `is_digit` computes its definition, by the ranges of the digits' bytes.
-use Rattle.text.proofs.Words.{below-digits, decimal, between-digits, letter}
-use Rattle.text.proofs.digits.is_digit.Statement.{statement}
-use Rattle.text.proofs.digits.is_digit.Tie as tie
+use Rattle.digits.proofs.Words.{below-digits, decimal, between-digits, letter}
+use Rattle.digits.proofs.is_digit.Statement.{statement}
+use Rattle.digits.proofs.is_digit.Tie as tie
 
 returns : tie.Need-returns
 returns c = search below-digits

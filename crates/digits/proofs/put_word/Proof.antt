@@ -1,8 +1,8 @@
 -- `put_word` stores the four digits of its definition one after the other.
-use Rattle.text.proofs.Words.{room-second, room-third, room-fourth, word-put}
+use Rattle.digits.proofs.Words.{room-second, room-third, room-fourth, word-put}
 use borrow.Author.Needs.{needs}
-use Rattle.text.proofs.digits.put_word.Statement.{statement}
-use Rattle.text.proofs.digits.put_word.Tie as tie
+use Rattle.digits.proofs.put_word.Statement.{statement}
+use Rattle.digits.proofs.put_word.Tie as tie
 
 digit-requires : tie.Need-digit-requires
 digit-requires c κs = search needs

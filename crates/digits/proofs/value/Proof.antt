@@ -1,9 +1,9 @@
 -- `value` computes its definition, by the ranges of the digits' bytes.
 use native.Mathlib.Omega.{arith}
-use Rattle.text.proofs.Words.{digit-ranged, decimal-value, letter-value}
+use Rattle.digits.proofs.Words.{digit-ranged, decimal-value, letter-value}
 use borrow.Author.Needs.{needs}
-use Rattle.text.proofs.digits.value.Statement.{statement}
-use Rattle.text.proofs.digits.value.Tie as tie
+use Rattle.digits.proofs.value.Statement.{statement}
+use Rattle.digits.proofs.value.Tie as tie
 
 sub-result : tie.Need-sub-result
 sub-result c = omega (arith, digit-ranged (c .before .args .byte) (c .before .pre) .from)

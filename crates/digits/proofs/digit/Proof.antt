@@ -1,8 +1,8 @@
 -- `digit` computes its definition.
-use Rattle.text.proofs.Words.{digit-below, digit-above}
+use Rattle.digits.proofs.Words.{digit-below, digit-above}
 use borrow.Author.Needs.{needs}
-use Rattle.text.proofs.digits.digit.Statement.{statement}
-use Rattle.text.proofs.digits.digit.Tie as tie
+use Rattle.digits.proofs.digit.Statement.{statement}
+use Rattle.digits.proofs.digit.Tie as tie
 
 cast-result : tie.Need-cast-result
 cast-result c = search needs

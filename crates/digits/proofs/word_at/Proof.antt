@@ -1,8 +1,8 @@
 -- `word_at` computes its definition: four digits, each sixteen times what stands before it.
-use Rattle.text.proofs.Words.{digit-first, digit-second, digit-third, digit-fourth, word-is}
+use Rattle.digits.proofs.Words.{digit-first, digit-second, digit-third, digit-fourth, word-is}
 use borrow.Author.Needs.{needs}
-use Rattle.text.proofs.digits.word_at.Statement.{statement}
-use Rattle.text.proofs.digits.word_at.Tie as tie
+use Rattle.digits.proofs.word_at.Statement.{statement}
+use Rattle.digits.proofs.word_at.Tie as tie
 
 shared-slice-read-value : tie.Need-shared-slice-read-value
 shared-slice-read-value c = search needs

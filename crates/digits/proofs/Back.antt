@@ -1,4 +1,4 @@
--- Digits and back, for any number of digits: a number's digits say the number, and what digits say has those digits. A digit's value is found by looking
+-- There and back, for any number of digits: a number's digits say the number, and what digits say has those digits. A digit's value is found by looking
 -- it up among the sixteen, so all rests on one fact, that no two digits have the same byte.
 use mathlib.Core.Bool.{true}
 use mathlib.Core.List.{List, [], _∷_, _++_, append-nil}
@@ -11,7 +11,7 @@ use lib.Seq.{append-snoc, getD-at}
 use borrow.Author.Tests.{eq-eqb, ne-eqb, lt-ltb, le-ltb, eqb-true}
 use Rattle.laws.proofs.Cases.{cases, lt-or}
 use Rattle.laws.proofs.Tests.{any-of, any-yes, least-is}
-use Rattle.text.specs.Text.{digit, is-digit, value, digits, number-on, number}
+use Rattle.digits.specs.Digits.{digit, is-digit, value, digits, number-on, number}
 
 -- One digit
 

@@ -1,4 +1,4 @@
--- What the functions on digits come to: a byte's digit by its range, four digits read from a place and written to it.
+-- What the functions on digits come to: a byte's digit by its range, four digits read from a place, two or four written to it.
 use mathlib.Core.Bool.{Bool, true, false}
 use mathlib.Core.List.{List, [], _∷_}
 use mathlib.Core.Path.{_≡_, refl, sym, _∙_, ap}
@@ -12,9 +12,9 @@ use borrow.Author.Tests.{ne-eqb, le-leb, lt-leb}
 use Rattle.laws.specs.Tests.{all}
 use Rattle.laws.proofs.Cases.{cases, bool, true-false, lt-or}
 use Rattle.laws.proofs.Tests.{both-yes, any-no, all-of}
-use Rattle.text.specs.Text.{digit, is-digit, value, digits, number-on, word}
-use Rattle.text.specs.Inside.{is-word, Word, Number}
-use Rattle.text.proofs.DigitsBack.{digit-low, digit-high, value-is, is-digit-yes, is-digit-of}
+use Rattle.digits.specs.Digits.{digit, is-digit, value, digits, number-on, word}
+use Rattle.digits.specs.Inside.{is-word, Word, Number}
+use Rattle.digits.proofs.Back.{digit-low, digit-high, value-is, is-digit-yes, is-digit-of}
 
 -- One byte
 
@@ -134,7 +134,19 @@ module _ (text : List ℕ) (at : ℕ) (w : Word text at) where
       let four′ = rw (first, getD-drop at text 1 0, getD-drop at text 2 0, getD-drop at text 3 0) at four in
       record { said = omega (arith, four′); small = omega arith }
 
--- Four digits written
+-- Digits written
+
+pub pair-room : (l : List ℕ) (at a : ℕ) → at + 2 ≤ length l → at + 1 < length (set l at a)
+pair-room l at a h = omega (arith, length-set l at a)
+
+digits-two : (x : ℕ) → digits 2 x ≡ digit (x / 16 % 16) ∷ digit (x % 16) ∷ []
+unfolding digits
+digits-two x = refl
+
+pub pair-put : (l : List ℕ) (at x a b : ℕ) → a ≡ digit (x / 16 % 16) → b ≡ digit (x % 16) → set (set l at a) (at + 1) b ≡ sets l at (digits 2 x)
+pair-put l at x a b p q =
+    let one : at + 1 ≡ suc at = omega arith in
+    rw (digits-two x, one, p, q)
 
 digits-four : (x : ℕ) → digits 4 x ≡ digit (x / 16 / 16 / 16 % 16) ∷ digit (x / 16 / 16 % 16) ∷ digit (x / 16 % 16) ∷ digit (x % 16) ∷ []
 unfolding digits
@@ -142,7 +154,7 @@ digits-four x = refl
 
 module _ (l : List ℕ) (at : ℕ) (h : at + 4 ≤ length l) where
   pub room-second : (a : ℕ) → at + 1 < length (set l at a)
-  room-second a = omega (arith, length-set l at a)
+  room-second a = pair-room l at a (omega arith)
 
   pub room-third : (a b : ℕ) → at + 2 < length (set (set l at a) (at + 1) b)
   room-third a b = omega (arith, length-set l at a, length-set (set l at a) (at + 1) b)

@@ -1,9 +1,9 @@
 -- `is_word` computes its definition, digit by digit.
 use borrow.Author.Tests.{not-true, not-false}
-use Rattle.text.proofs.Words.{word-no-first, word-no-second, word-no-third, word-fourth}
+use Rattle.digits.proofs.Words.{word-no-first, word-no-second, word-no-third, word-fourth}
 use borrow.Author.Needs.{needs}
-use Rattle.text.proofs.digits.is_word.Statement.{statement}
-use Rattle.text.proofs.digits.is_word.Tie as tie
+use Rattle.digits.proofs.is_word.Statement.{statement}
+use Rattle.digits.proofs.is_word.Tie as tie
 
 shared-slice-read-is-digit : tie.Need-shared-slice-read-is-digit
 shared-slice-read-is-digit c = search needs
