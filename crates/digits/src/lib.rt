@@ -93,7 +93,7 @@ pub fn put_pair(text: &mut [u8], at: usize, x: u16)
     requires { ⌜ at + 2 ≤ length (now text) ⌝ }
     ensures { λ _. ⌜ now (text .exit) ≡ sets (now (text .entry)) at (digits 2 x) ⌝ }
 {
-    let a = x / 16;
-    text[at] = digit(a % 16);
+    let high = x / 16;
+    text[at] = digit(high % 16);
     text[at + 1] = digit(x % 16);
 }

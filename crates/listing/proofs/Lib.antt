@@ -1,0 +1,4 @@
+pub mod Putting
+pub mod Stepping
+pub mod Showing
+pub mod Printing
