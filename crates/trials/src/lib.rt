@@ -1,0 +1,1 @@
+// No code: the table of trials, and the theorem that every row of it holds.
