@@ -1,5 +1,6 @@
+pub mod Lists
 pub mod Choosing
 pub mod Ringing
-pub mod Lists
 pub mod Claims
+pub mod Rows
 pub mod Table

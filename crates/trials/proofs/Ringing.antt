@@ -1,12 +1,12 @@
 -- A ring of fork constraints by a test; and that there is no legal choice where there is a ring.
 use mathlib.Core.Bool.{Bool, true, false, cond}
-use mathlib.Core.Path.{_≡_, refl, sym, ap, _∙_, subst}
-use Prim.Native.Nat.{ℕ, suc, _≤_, _<_}
+use mathlib.Core.Path.{_≡_, sym, subst}
+use Prim.Native.Nat.{ℕ, suc, _≤_}
 use native.Mathlib.Omega.{arith}
 use lib.Dec.{eqb, ltb}
 use borrow.Author.Tests.{eqb-true, eq-eqb, ne-eqb, ltb-true}
 use Rattle.laws.specs.Tests.{both, either, all}
-use Rattle.laws.proofs.Cases.{cases, bool}
+use Rattle.laws.proofs.Cases.{cases}
 use Rattle.laws.proofs.Tests.{both-of, either-of, all-of}
 use Rattle.tree.specs.Tree.{Tree}
 use Rattle.fork.specs.Fork.{Constraint, same-side, other-side, sameb, differentb}

@@ -1,5 +1,5 @@
--- Every row of the table holds: by computation.
-use mathlib.Core.Bool.{Bool, true}
+-- Every row of the table holds: its test is computed, definition by definition.
+use mathlib.Core.Bool.{true}
 use mathlib.Core.Path.{_≡_, refl}
 use Rattle.laws.specs.Tests.{both, either, all, any, least}
 use Rattle.laws.specs.Counting.{count, many}
@@ -15,18 +15,19 @@ use Rattle.search.specs.Inside.{everyone}
 use Rattle.fork.specs.Ends.{lowestb, high, more, top, highestb}
 use Rattle.fork.specs.Fork.{forkb, groupb, sameb, differentb, levelb, wherever, legalb, alignedb}
 use Rattle.groups.specs.Constraints.{apartb, oddb, orderedb, ringb}
-use Rattle.drawing.specs.Order.{side-of, leaving, rank, nested, fan, discovered, incoming, beside, clockwise}
+use Rattle.drawing.specs.Order.{side-of as line-side, leaving, rank, nested, fan, discovered, incoming, beside, clockwise}
 use Rattle.drawing.specs.Meshes.{opposite, leave as leave-by, follow-in, turned, step as next-direction, mesh-of, mesh-count, borders, mesh-size, mesh-list, size-list}
-use Rattle.trials.specs.Trials.{written, directions, Every, Holds}
+use Rattle.trials.specs.Trials.{side-of, sides, written, directions, Every, Holds}
 use Rattle.trials.specs.Table.{table}
 use Rattle.trials.proofs.Lists.{alike}
 use Rattle.trials.proofs.Choosing.{agreeb, beforeb, properb, scan, everyb, not-later, firstb, nextb, lastb}
 use Rattle.trials.proofs.Ringing.{constraintb, roundb}
-use Rattle.trials.proofs.Claims.{each, sidedb, onwardb, choicesb, drawsb, test, refusal, holdsb, all-of}
+use Rattle.trials.proofs.Claims.{each, fittingb, onwardb, choicesb, drawsb, test}
+use Rattle.trials.proofs.Rows.{refusal, holdsb, all-hold-of}
 
-tried : each holdsb table ≡ true
-unfolding both either all any least count many from keep gather insert sort lowest-on touches other joins oversize odd astray looped doubled mispaired higher lower climb aboveb returnb returns low free lowest-free take-line leave go step run start finished everyone lowestb high more top highestb forkb groupb sameb differentb levelb wherever legalb alignedb apartb oddb orderedb ringb side-of leaving rank nested fan discovered incoming beside clockwise opposite leave-by follow-in turned next-direction mesh-of mesh-count borders mesh-size mesh-list size-list written directions alike agreeb beforeb properb scan everyb not-later firstb nextb lastb constraintb roundb each sidedb onwardb choicesb drawsb test refusal holdsb
-tried = refl
+table-passes : each holdsb table ≡ true
+unfolding both either all any least count many from keep gather insert sort lowest-on touches other joins oversize odd astray looped doubled mispaired higher lower climb aboveb returnb returns low free lowest-free take-line leave go step run start finished everyone lowestb high more top highestb forkb groupb sameb differentb levelb wherever legalb alignedb apartb oddb orderedb ringb line-side leaving rank nested fan discovered incoming beside clockwise opposite leave-by follow-in turned next-direction mesh-of mesh-count borders mesh-size mesh-list size-list side-of sides written directions alike agreeb beforeb properb scan everyb not-later firstb nextb lastb constraintb roundb each fittingb onwardb choicesb drawsb test refusal holdsb
+table-passes = refl
 
 pub all-hold : Every Holds table
-all-hold = all-of table tried
+all-hold = all-hold-of table table-passes

@@ -1,100 +1,95 @@
 -- The table of trials: P1 to P12, and two triangles on one line. (docs/RULES.md, "Worked examples".)
 use mathlib.Core.List.{List, [], _∷_}
 use Prim.Native.Nat.{ℕ}
-use Rattle.side.specs.Sides.{left as L, right as R}
 use Rattle.groups.specs.Constraints.{same, different}
-use Rattle.trials.specs.Trials.{Trial, refused-by, granted, back-lines-are, choices-are, next-is, none-after, not-aligned, agree, ring-is, draws-meshes, draws-sizes, draws-directions, draws-clockwise}
+use Rattle.trials.specs.Trials.{Trial, trial, refused-by, granted, back-lines-are, choices-are, next-is, none-after, not-aligned, must-agree, ring-is, mesh-count-is, sizes-are, meshes-are, clockwise-is}
 
--- K4: four vertices, all joined to each other.
+-- Four vertices, all joined to each other.
 abbrev pub K4 : List (ℕ × ℕ)
 K4 = (0, 1) ∷ (1, 2) ∷ (2, 3) ∷ (3, 0) ∷ (3, 1) ∷ (2, 0) ∷ []
 
--- K5 but for its last line, the pairs in dictionary order; K5; and K3,3, three vertices joined to three.
-abbrev pub K5-but-one : List (ℕ × ℕ)
-K5-but-one = (0, 1) ∷ (0, 2) ∷ (0, 3) ∷ (0, 4) ∷ (1, 2) ∷ (1, 3) ∷ (1, 4) ∷ (2, 3) ∷ (2, 4) ∷ []
-
+-- Five vertices, all joined to each other, the pairs in dictionary order; and the same without the last line.
 abbrev pub K5 : List (ℕ × ℕ)
 K5 = (0, 1) ∷ (0, 2) ∷ (0, 3) ∷ (0, 4) ∷ (1, 2) ∷ (1, 3) ∷ (1, 4) ∷ (2, 3) ∷ (2, 4) ∷ (3, 4) ∷ []
 
+abbrev pub K5-without-9 : List (ℕ × ℕ)
+K5-without-9 = (0, 1) ∷ (0, 2) ∷ (0, 3) ∷ (0, 4) ∷ (1, 2) ∷ (1, 3) ∷ (1, 4) ∷ (2, 3) ∷ (2, 4) ∷ []
+
+-- Three vertices, each joined to three others.
 abbrev pub K33 : List (ℕ × ℕ)
 K33 = (0, 3) ∷ (0, 4) ∷ (0, 5) ∷ (1, 3) ∷ (1, 4) ∷ (1, 5) ∷ (2, 3) ∷ (2, 4) ∷ (2, 5) ∷ []
 
--- One vertex: one choice, which is empty, and one mesh.
+-- One vertex: one choice, the empty one, and one mesh.
 abbrev pub P1 : Trial
-P1 = granted 1 [] (choices-are ([] ∷ []) ∷ draws-meshes [] 1 ∷ [])
+P1 = trial 1 [] (granted (choices-are ("" ∷ []) ∷ mesh-count-is "" 1 ∷ []))
 
 -- One line: one choice, and one mesh, of size 1.
 abbrev pub P2 : Trial
-P2 = granted 2 ((0, 1) ∷ []) (choices-are ([] ∷ []) ∷ draws-sizes [] (1 ∷ []) ∷ [])
+P2 = trial 2 ((0, 1) ∷ []) (granted (choices-are ("" ∷ []) ∷ mesh-count-is "" 1 ∷ sizes-are "" (1 ∷ []) ∷ []))
 
--- A triangle: two choices, and two meshes.
+-- A triangle: two choices, and two meshes by either.
 abbrev pub P3 : Trial
-P3 = granted 3 ((0, 1) ∷ (1, 2) ∷ (2, 0) ∷ []) (choices-are ((L ∷ []) ∷ (R ∷ []) ∷ []) ∷ draws-meshes (L ∷ []) 2 ∷ draws-meshes (R ∷ []) 2 ∷ [])
+P3 = trial 3 ((0, 1) ∷ (1, 2) ∷ (2, 0) ∷ []) (granted (choices-are ("L" ∷ "R" ∷ []) ∷ mesh-count-is "L" 2 ∷ mesh-count-is "R" 2 ∷ []))
 
--- K4: its back lines, and its four choices.
+-- K4: its back lines and its choices.
 abbrev pub P4 : Trial
-P4 = granted 4 K4 (back-lines-are (3 ∷ 4 ∷ 5 ∷ []) ∷ choices-are ((L ∷ L ∷ L ∷ []) ∷ (L ∷ R ∷ L ∷ []) ∷ (R ∷ L ∷ R ∷ []) ∷ (R ∷ R ∷ R ∷ []) ∷ []) ∷ [])
+P4 = trial 4 K4 (granted (back-lines-are (3 ∷ 4 ∷ 5 ∷ []) ∷ choices-are ("LLL" ∷ "LRL" ∷ "RLR" ∷ "RRR" ∷ []) ∷ []))
 
--- K4 with all left: the order at each vertex, and the directions on each mesh.
+-- K4, all left: the order at each vertex, and the directions on each mesh.
 abbrev pub P5 : Trial
 P5 =
-    granted 4 K4
-    (draws-clockwise (L ∷ L ∷ L ∷ []) ((5 ∷ 3 ∷ 0 ∷ []) ∷ (0 ∷ 4 ∷ 1 ∷ []) ∷ (1 ∷ 2 ∷ 5 ∷ []) ∷ (2 ∷ 4 ∷ 3 ∷ []) ∷ [])
-    ∷ draws-directions (L ∷ L ∷ L ∷ []) ((0 ∷ 6 ∷ 9 ∷ []) ∷ (1 ∷ 3 ∷ 11 ∷ []) ∷ (2 ∷ 4 ∷ 8 ∷ []) ∷ (5 ∷ 7 ∷ 10 ∷ []) ∷ [])
-    ∷ [])
+    trial 4 K4
+    (granted
+    (clockwise-is "LLL" ((5 ∷ 3 ∷ 0 ∷ []) ∷ (0 ∷ 4 ∷ 1 ∷ []) ∷ (1 ∷ 2 ∷ 5 ∷ []) ∷ (2 ∷ 4 ∷ 3 ∷ []) ∷ [])
+    ∷ meshes-are "LLL" ((0 ∷ 6 ∷ 9 ∷ []) ∷ (1 ∷ 3 ∷ 11 ∷ []) ∷ (2 ∷ 4 ∷ 8 ∷ []) ∷ (5 ∷ 7 ∷ 10 ∷ []) ∷ [])
+    ∷ []))
 
--- K5: no choice is legal, and a ring of three.
+-- K5: 7, and a ring of three.
 abbrev pub P6 : Trial
-P6 = granted 5 K5 (ring-is ((5, same) ∷ (6, same) ∷ (8, different) ∷ []) ∷ [])
+P6 = trial 5 K5 (granted (ring-is ((5, same) ∷ (6, same) ∷ (8, different) ∷ []) ∷ []))
 
--- K3,3: no choice is legal, and a ring of two.
+-- K3,3: 7, and a ring of two.
 abbrev pub P7 : Trial
-P7 = granted 6 K33 (ring-is ((5, same) ∷ (6, different) ∷ []) ∷ [])
+P7 = trial 6 K33 (granted (ring-is ((5, same) ∷ (6, different) ∷ []) ∷ []))
 
--- K5 but for its last line: its back lines, and its four choices.
+-- K5 without its last line: its back lines and its choices.
 abbrev pub P8 : Trial
-P8 =
-    granted 5 K5-but-one
-    (back-lines-are (1 ∷ 2 ∷ 3 ∷ 5 ∷ 6 ∷ [])
-    ∷ choices-are ((L ∷ L ∷ L ∷ L ∷ R ∷ []) ∷ (L ∷ L ∷ L ∷ R ∷ L ∷ []) ∷ (R ∷ R ∷ R ∷ L ∷ R ∷ []) ∷ (R ∷ R ∷ R ∷ R ∷ L ∷ []) ∷ [])
-    ∷ [])
+P8 = trial 5 K5-without-9 (granted (back-lines-are (1 ∷ 2 ∷ 3 ∷ 5 ∷ 6 ∷ []) ∷ choices-are ("LLLLR" ∷ "LLLRL" ∷ "RRRLR" ∷ "RRRRL" ∷ []) ∷ []))
 
--- K4: what comes after a choice, and 9 after the last.
+-- K4: the choice after one, and 9 after another.
 abbrev pub P9 : Trial
-P9 = granted 4 K4 (next-is (L ∷ R ∷ L ∷ []) (R ∷ L ∷ R ∷ []) ∷ none-after (R ∷ R ∷ R ∷ []) ∷ [])
+P9 = trial 4 K4 (granted (next-is "LRL" "RLR" ∷ none-after "RRR" ∷ []))
 
--- K4: 8 for a choice that has lines 3 and 5 on different sides, since they have to agree.
+-- K4: 8, since lines 3 and 5 have to be on one side.
 abbrev pub P10 : Trial
-P10 = granted 4 K4 (not-aligned (R ∷ L ∷ L ∷ []) ∷ agree 3 5 ∷ [])
+P10 = trial 4 K4 (granted (not-aligned "RLL" ∷ must-agree 3 5 ∷ []))
 
--- Three vertices and one line: not connected.
+-- Three vertices and one line: 6.
 abbrev pub P11 : Trial
-P11 = refused-by 6 3 ((0, 1) ∷ [])
+P11 = trial 3 ((0, 1) ∷ []) (refused-by 6)
 
--- Too many vertices, and an end that is none of them: the lower number comes first.
+-- Too many vertices, and an end that is none of them: 2, which comes before 4.
 abbrev pub P12 : Trial
-P12 = refused-by 2 513 ((0, 600) ∷ [])
+P12 = trial 513 ((0, 600) ∷ []) (refused-by 2)
 
--- Two triangles on one line: the third lines of both end at vertex 0, where no tree line has them both as returns; so all four choices are aligned.
+-- Two triangles on one line. Both back lines end at vertex 0, and no tree line has both as returns: they are free of each other.
 abbrev pub two-triangles : Trial
 two-triangles =
-    granted 4 ((0, 1) ∷ (1, 2) ∷ (2, 0) ∷ (1, 3) ∷ (3, 0) ∷ [])
+    trial 4 ((0, 1) ∷ (1, 2) ∷ (2, 0) ∷ (1, 3) ∷ (3, 0) ∷ [])
+    (granted
     (back-lines-are (2 ∷ 4 ∷ [])
-    ∷ choices-are ((L ∷ L ∷ []) ∷ (L ∷ R ∷ []) ∷ (R ∷ L ∷ []) ∷ (R ∷ R ∷ []) ∷ [])
-    ∷ draws-sizes (L ∷ L ∷ []) (3 ∷ 3 ∷ 4 ∷ [])
-    ∷ draws-sizes (L ∷ R ∷ []) (3 ∷ 3 ∷ 4 ∷ [])
-    ∷ [])
+    ∷ choices-are ("LL" ∷ "LR" ∷ "RL" ∷ "RR" ∷ [])
+    ∷ mesh-count-is "LL" 3
+    ∷ mesh-count-is "LR" 3
+    ∷ mesh-count-is "RL" 3
+    ∷ mesh-count-is "RR" 3
+    ∷ []))
 
--- The same with other numbers, the shared line last: now one tree line has both back lines as returns, and two choices are left.
-abbrev pub two-triangles-again : Trial
-two-triangles-again =
-    granted 4 ((0, 1) ∷ (1, 2) ∷ (2, 3) ∷ (3, 0) ∷ (0, 2) ∷ [])
-    (back-lines-are (3 ∷ 4 ∷ [])
-    ∷ choices-are ((L ∷ L ∷ []) ∷ (R ∷ R ∷ []) ∷ [])
-    ∷ not-aligned (L ∷ R ∷ [])
-    ∷ agree 3 4
-    ∷ draws-sizes (L ∷ L ∷ []) (3 ∷ 4 ∷ 3 ∷ [])
-    ∷ [])
+-- The same with other numbers, the shared line last. Now a tree line has both back lines as returns: they are on one side.
+abbrev pub two-triangles-renumbered : Trial
+two-triangles-renumbered =
+    trial 4 ((0, 1) ∷ (1, 2) ∷ (2, 3) ∷ (3, 0) ∷ (0, 2) ∷ [])
+    (granted (back-lines-are (3 ∷ 4 ∷ []) ∷ choices-are ("LL" ∷ "RR" ∷ []) ∷ must-agree 3 4 ∷ mesh-count-is "LL" 3 ∷ mesh-count-is "RR" 3 ∷ []))
 
 abbrev pub table : List Trial
-table = P1 ∷ P2 ∷ P3 ∷ P4 ∷ P5 ∷ P6 ∷ P7 ∷ P8 ∷ P9 ∷ P10 ∷ P11 ∷ P12 ∷ two-triangles ∷ two-triangles-again ∷ []
+table = P1 ∷ P2 ∷ P3 ∷ P4 ∷ P5 ∷ P6 ∷ P7 ∷ P8 ∷ P9 ∷ P10 ∷ P11 ∷ P12 ∷ two-triangles ∷ two-triangles-renumbered ∷ []
