@@ -4,3 +4,4 @@ pub mod Ringing
 pub mod Claims
 pub mod Rows
 pub mod Table
+pub mod Answers

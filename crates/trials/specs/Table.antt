@@ -19,9 +19,9 @@ K5-without-9 = (0, 1) ∷ (0, 2) ∷ (0, 3) ∷ (0, 4) ∷ (1, 2) ∷ (1, 3) ∷
 abbrev pub K33 : List (ℕ × ℕ)
 K33 = (0, 3) ∷ (0, 4) ∷ (0, 5) ∷ (1, 3) ∷ (1, 4) ∷ (1, 5) ∷ (2, 3) ∷ (2, 4) ∷ (2, 5) ∷ []
 
--- One vertex: one choice, the empty one, and one mesh.
+-- One vertex: one choice, the empty one, and one mesh, of size 0.
 abbrev pub P1 : Trial
-P1 = trial 1 [] (granted (choices-are ("" ∷ []) ∷ mesh-count-is "" 1 ∷ []))
+P1 = trial 1 [] (granted (choices-are ("" ∷ []) ∷ mesh-count-is "" 1 ∷ sizes-are "" (0 ∷ []) ∷ []))
 
 -- One line: one choice, and one mesh, of size 1.
 abbrev pub P2 : Trial
