@@ -3,7 +3,7 @@ use mathlib.Core.Bool.{Bool, false}
 use mathlib.Core.List.{List, [], _∷_, _++_, map, foldr}
 use mathlib.Core.Logic.{inl, inr}
 use mathlib.Core.Path.{_≡_, refl, sym, ap, _∙_, subst}
-use Prim.Native.Nat.{ℕ, _*_, _/_}
+use Prim.Native.Nat.{ℕ, zero, suc, _*_, _/_}
 use Prim.Native.String.{String}
 use native.Mathlib.Omega.{arith}
 use lib.ListN.{length, length-map}
@@ -221,3 +221,17 @@ answered-of (trial n lines (granted claims)) h =
 
 pub all-answered : Every Answered table
 all-answered = every-map Holds Answered answered-of table all-hold
+
+-- by the row's place in the table
+abbrev pub Place : {A : Type 0} → (A → Type 0) → List A → ℕ → Type 0
+Place P [] k = Unit {0}
+Place P (x ∷ l) zero = P x
+Place P (x ∷ l) (suc k) = Place P l k
+
+place : {A : Type 0} (P : A → Type 0) (l : List A) (k : ℕ) → Every P l → Place P l k
+place P [] k a = tt
+place P (x ∷ l) zero a = a .0
+place P (x ∷ l) (suc k) a = place P l k (a .1)
+
+pub answered : (k : ℕ) → Place Answered table k
+answered k = place Answered table k all-answered

@@ -5,3 +5,4 @@ pub mod Claims
 pub mod Rows
 pub mod Table
 pub mod Answers
+pub mod Rejected
