@@ -1,23 +1,29 @@
 -- What a row of the table says of a network, the calls have to say: by their statements no other result is allowed.
-use mathlib.Core.Bool.{Bool, false}
+use mathlib.Core.Bool.{Bool, false, not}
 use mathlib.Core.List.{List, [], _∷_, _++_, map, foldr}
-use mathlib.Core.Logic.{inl, inr}
+use mathlib.Core.Logic.{inl, inr, _≢_}
 use mathlib.Core.Path.{_≡_, refl, sym, ap, _∙_, subst}
 use Prim.Native.Nat.{ℕ, zero, suc, _*_, _/_}
 use Prim.Native.String.{String}
 use native.Mathlib.Omega.{arith}
+use lib.Dec.{eqb, ltb}
 use lib.ListN.{length, length-map}
-use borrow.Author.Tests.{le-ltb}
+use borrow.Author.Tests.{le-ltb, ne-eqb}
+use Rattle.laws.specs.Tests.{both}
 use Rattle.laws.specs.Checks.{check}
 use Rattle.laws.specs.Lists.{upto, filled}
 use Rattle.laws.specs.Sorting.{gather}
+use Rattle.laws.proofs.Cases.{cases, eq-or}
+use Rattle.laws.proofs.Keeping.{all-true}
 use Rattle.laws.proofs.Lengths.{length-from}
+use Rattle.laws.proofs.Lists.{keep-same}
 use Rattle.network.specs.Network.{Network, network}
 use Rattle.network.specs.Numbers.{refused, done, Checked}
 use Rattle.network.specs.declared.Answer.{Answer}
 use Rattle.network.proofs.Sifting.{checked-once}
-use Rattle.tree.specs.Tree.{Tree}
-use Rattle.search.specs.Machine.{tree-in}
+use Rattle.tree.specs.Tree.{Tree, tree, back}
+use Rattle.tree.specs.Returns.{backb}
+use Rattle.search.specs.Machine.{finished, tree-in}
 use Rattle.search.specs.Orient.{back-lines, cramped, Untouched as Unoriented, Oriented}
 use Rattle.fork.specs.Fork.{Aligned}
 use Rattle.groups.specs.Order.{at, Agree, First, Next, Last}
@@ -43,6 +49,18 @@ written-long S c = length-map (upto (S .lines)) _ ∙ length-from 0 (S .lines)
 sizes-long : (net : Network) (c : List ℕ) → length (size-list-in net c) ≡ meshes-in net c
 unfolding size-list
 sizes-long net c = length-map (upto (meshes-in net c)) _ ∙ length-from 0 (meshes-in net c)
+
+-- of the two kinds of a line, a back line's
+back-kind : (k : ℕ) → eqb k back ≡ both (ltb k 2) (not (eqb k tree))
+unfolding both
+back-kind k =
+    cases (eq-or k 1)
+    (λ e. rw e refl)
+    (λ d.
+    let d′ : k ≢ 1 = d in
+    cases (eq-or k 0)
+    (λ e. rw e refl)
+    (λ z. let z′ : k ≢ 0 = z in rw (ne-eqb k 1 d, le-ltb k 2 (omega arith)) refl))
 
 module _ (n : ℕ) (ends : List ℕ) where
   abbrev net : Network
@@ -184,8 +202,14 @@ module _ (n : ℕ) (ends : List ℕ) where
 
     said-of : (claim : Claim) → True net claim → Said n ends claim
     said-of (back-lines-are l) q = λ kinds heights kinds′ heights′ r room x.
-        granted-so (cramped n ends kinds heights) (Unoriented kinds heights r kinds′ heights′) (Oriented net kinds heights r kinds′ heights′) room x .answers
-        ∙ ap (λ (k : ℕ). done k 0) (q .1)
+        let y = granted-so (cramped n ends kinds heights) (Unoriented kinds heights r kinds′ heights′) (Oriented net kinds heights r kinds′ heights′) room x in (
+          y .answers ∙ ap (λ (k : ℕ). done k 0) (q .1),
+          finished net .kind,
+          y .each-kind,
+          keep-same (λ k. eqb (at (finished net .kind) k) back) (backb (tree-in net)) (upto (net .lines))
+              (all-true (λ k. eqb (at (finished net .kind) k) back ≡ backb (tree-in net) k) (upto (net .lines)) (λ k. back-kind (at (finished net .kind) k)))
+              ∙ q .0,
+        )
     said-of (choices-are l) q = choices-said l (q .1)
     said-of (next-is c d) q = next-said c d (q .2) (q .3)
     said-of (none-after c) q = nine-said c (q .1) (q .2)

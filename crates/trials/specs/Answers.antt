@@ -5,11 +5,13 @@ use mathlib.Core.List.{List, [], _∷_, _++_, foldr}
 use mathlib.Core.Path.{_≡_}
 use Prim.Native.Nat.{ℕ, _*_, _/_}
 use Prim.Native.String.{String}
+use lib.Dec.{eqb}
 use lib.ListN.{length}
-use Rattle.laws.specs.Lists.{filled}
+use Rattle.laws.specs.Lists.{keep, upto, filled}
 use Rattle.network.specs.Network.{network}
 use Rattle.network.specs.Numbers.{refused, done}
 use Rattle.network.specs.declared.Answer.{Answer}
+use Rattle.tree.specs.Tree.{back}
 use Rattle.search.specs.Orient.{back-lines, cramped, Orient}
 use Rattle.groups.specs.Order.{at, Agree}
 use Rattle.choice.specs.Calls.{cramped-first, FirstChoice, cramped-next, NextChoice}
@@ -17,10 +19,12 @@ use Rattle.drawing.specs.Draw.{cramped-draw, Draw}
 use Rattle.trials.specs.Trials.{Claim, back-lines-are, choices-are, next-is, none-after, not-aligned, must-agree, ring-is, mesh-count-is, sizes-are, meshes-are, clockwise-is, Trial, trial, refused-by, granted, ends-of, directions, Every, buffer}
 
 module _ (n : ℕ) (ends : List ℕ) where
-  -- Given room, P is so of what orient answers; of what first choice answers, and of the choice that it leaves.
-  abbrev pub OfOrient : (Answer → Type 0) → Type 0
-  OfOrient P = (kinds heights kinds′ heights′ : List ℕ) (r : Answer) → cramped n ends kinds heights ≡ false → Orient n ends kinds heights r kinds′ heights′ → P r
+  -- Given room, P is so of what orient answers, of what the buffer of kinds held, and of what it leaves there.
+  abbrev pub OfOrient : (Answer → List ℕ → List ℕ → Type 0) → Type 0
+  OfOrient P =
+      (kinds heights kinds′ heights′ : List ℕ) (r : Answer) → cramped n ends kinds heights ≡ false → Orient n ends kinds heights r kinds′ heights′ → P r kinds kinds′
 
+  -- .. of what first choice answers, and of the choice that it leaves.
   abbrev pub OfFirst : (Answer → List ℕ → Type 0) → Type 0
   OfFirst P =
       (choice lines kinds choice′ lines′ kinds′ : List ℕ) (r : Answer) → cramped-first ends choice lines kinds ≡ false
@@ -64,7 +68,8 @@ module _ (n : ℕ) (ends : List ℕ) where
 
   -- What a claim comes to. (That two lines must agree is no call's answer.)
   abbrev pub Said : Claim → Type 0
-  Said (back-lines-are l) = OfOrient (λ r. r ≡ done (length l) 0)
+  Said (back-lines-are l) =
+      OfOrient (λ r kinds kinds′. (r ≡ done (length l) 0) × (table : List ℕ) × (kinds′ ≡ filled lines table kinds) × (keep (λ k. eqb (at table k) back) (upto lines) ≡ l))
   Said (choices-are l) = CallsList l
   Said (next-is c d) = NextGives c d
   Said (none-after c) = NextRefuses 9 c
@@ -79,7 +84,7 @@ module _ (n : ℕ) (ends : List ℕ) where
 
   -- Every call that is given a network, and room, refuses it by the number.
   pub record Refuses (k : ℕ) : Type 0 where
-    pub orient : OfOrient (λ r. r ≡ refused k)
+    pub orient : OfOrient (λ r kinds kinds′. r ≡ refused k)
     pub first : OfFirst (λ r choice′. r ≡ refused k)
     pub next : (choice : List ℕ) → OfNext choice (λ r choice′. r ≡ refused k)
     pub draw : (choice : List ℕ) → OfDraw choice (λ r order mesh sizes order′ mesh′ sizes′. r ≡ refused k)
