@@ -1,20 +1,18 @@
 -- What first choice and next choice return, one lemma for each place where they do.
 use mathlib.Core.Bool.{Bool, true, false}
 use mathlib.Core.List.{List}
-use mathlib.Core.Logic.{_⊎_, inl, inr, _≢_}
+use mathlib.Core.Logic.{inl, inr}
 use mathlib.Core.Path.{_≡_, refl, sym, ap, _∙_, subst}
-use Prim.Native.Nat.{ℕ, _+_, _*_, _-_, _/_, _≤_, _<_}
+use Prim.Native.Nat.{ℕ, _+_, _-_, _/_, _≤_, _<_}
 use native.Mathlib.Omega.{arith}
-use lib.Dec.{ltb}
-use lib.ListN.{getD, length}
+use lib.ListN.{length}
 use borrow.Author.Tests.{lt-ltb, le-ltb}
 use Rattle.laws.specs.Tests.{either}
 use Rattle.laws.specs.Checks.{check}
-use Rattle.laws.proofs.Cases.{cases, true-false}
+use Rattle.laws.proofs.Cases.{true-false}
 use Rattle.laws.proofs.Tests.{either-first, either-second, either-no}
-use Rattle.network.specs.Network.{Network, network, Connected}
-use Rattle.network.specs.Numbers.{refused, done, oversize, odd, Checked}
-use Rattle.network.specs.Inside.{Fit}
+use Rattle.network.specs.Network.{Network, network}
+use Rattle.network.specs.Numbers.{refused, done, oversize, odd}
 use Rattle.network.specs.declared.Answer.{Answer}
 use Rattle.network.proofs.Sifting.{refuse-2, refuse-3, refuse-rest}
 use Rattle.tree.specs.Tree.{Tree, tree-of}
@@ -34,22 +32,22 @@ use Rattle.fork.specs.Fork.{Constraint}
 use Rattle.fork.specs.Link.{Link, to-top, tops, to-bottom, turned}
 use Rattle.fork.specs.Inside.{Known}
 use Rattle.fork.proofs.Ends.{top-is, high-some}
-use Rattle.groups.specs.Order.{at, First, Next, Last, Before}
-use Rattle.groups.specs.Constraints.{Ring, Obeys, Between, More}
+use Rattle.groups.specs.Order.{at, First, Next}
+use Rattle.groups.specs.Constraints.{Ring, Obeys}
 use Rattle.groups.specs.Groups.{Tables, tables, fitsb}
-use Rattle.groups.specs.Calls.{Room, Past, Reading, Copied, stepped, Advanced, Stuck}
-use Rattle.groups.specs.Rings.{Showing, Shown}
-use Rattle.groups.proofs.Order.{first-same, next-same, last-same}
+use Rattle.groups.specs.Calls.{Past, Reading, Copied, Advanced, Stuck}
+use Rattle.rings.specs.Rings.{Showing, Shown}
+use Rattle.groups.proofs.Order.{first-same, next-same}
 use Rattle.groups.proofs.Answers.{copied-first, advanced-next, stuck-last, reading}
 use Rattle.groups.proofs.Choosing.{fits-obeys, obeys-fits}
-use Rattle.groups.proofs.Showing.{torn, ring-shown}
+use Rattle.rings.proofs.Showing.{torn, ring-shown}
 use Rattle.choice.specs.Choice.{Drawable, Proper, Outdone}
-use Rattle.choice.specs.Calls.{Kept, cramped-first, Untouched, Chosen, Ringed, FirstChoice, cramped-next, Unmoved, Stepped, NextChoice}
-use Rattle.choice.specs.Inside.{Closed, Taken, Together, Unkept, Sorted, all-kept, one-torn, Grouping}
-use Rattle.choice.specs.declared.Groups.{Groups}
-use Rattle.choice.specs.declared.Tie.{Tie}
-use Rattle.choice.specs.declared.Tie.the-variants.{Holds, Tears}
-use Rattle.choice.proofs.Tying.{link-back}
+use Rattle.choice.specs.Calls.{Kept, cramped-first, Untouched, Chosen, Ringed, FirstChoice}
+use Rattle.ties.specs.Inside.{Closed, Taken, Together, Unkept}
+use Rattle.grouping.specs.Inside.{Sorted, all-kept, one-torn, Grouping}
+use Rattle.grouping.specs.declared.Groups.{Groups}
+use Rattle.ties.specs.declared.Tie.the-variants.{Holds, Tears}
+use Rattle.ties.proofs.Tying.{link-back}
 use Rattle.choice.proofs.Proper.{proper-obeys, obeys-proper, none-proper, none-drawable, ring-constraints}
 
 -- What a search with the number 0 leaves

@@ -1,16 +1,4 @@
-pub mod Tying
 pub mod Proper
-pub mod Trying
-pub mod Walking
-pub mod Crossing
-pub mod Settling
+pub mod Deciding
 pub mod Answering
 pub mod Stepping
-pub mod Tight
-pub mod Granted
-pub mod Outcomes
-pub mod RefutedFirst
-pub mod RefutedNext
-pub mod Enumerating
-pub mod Listed
-pub mod OneChoice

@@ -1,31 +1,28 @@
 -- Proper choices are those that keep every link: so what the tables of all links tell is told of them; and where one link tears, no choice is legal.
-use mathlib.Core.Bool.{Bool, true, false}
-use mathlib.Core.Logic.{_⊎_, inl, inr, _≢_}
-use mathlib.Core.Path.{_≡_, refl, sym, ap, _∙_, subst}
-use Prim.Native.Nat.{ℕ, zero, suc, _+_, _%_, _≤_, _<_}
+use mathlib.Core.Bool.{true}
+use mathlib.Core.Path.{_≡_}
+use Prim.Native.Nat.{ℕ, _%_, _<_}
 use native.Mathlib.Omega.{arith}
 use lib.Dec.{eqb}
 use borrow.Author.Tests.{eqb-true}
-use Rattle.laws.specs.Counting.{count}
 use Rattle.laws.proofs.Cases.{cases}
 use Rattle.laws.proofs.Counting.{count-some}
 use Rattle.laws.proofs.Tests.{both-of}
 use Rattle.tree.specs.Tree.{Tree}
 use Rattle.tree.specs.Returns.{backb}
 use Rattle.tree.proofs.Searched.{Searched}
-use Rattle.fork.specs.Fork.{Legal, Aligned, Constraint}
+use Rattle.fork.specs.Fork.{Aligned, Constraint}
 use Rattle.fork.specs.Link.{Link, turned}
 use Rattle.fork.proofs.Rule.{back-yes, back-of}
-use Rattle.fork.proofs.Aligning.{settled, settled-aligned, none-legal}
-use Rattle.fork.proofs.Links.{aligned-links, links-aligned, link-ends}
+use Rattle.fork.proofs.Aligning.{none-legal}
+use Rattle.fork.proofs.Links.{aligned-links, links-aligned}
 use Rattle.fork.proofs.Rings.{Tied, link-tied, ring-step, ring-close}
-use Rattle.groups.specs.Order.{at, First, Next, Last, Before}
-use Rattle.groups.specs.Constraints.{Constraints, Between, More, Keeps, BackLine, Obeys, Ring, oddb, ringb}
-use Rattle.groups.specs.Groups.{Tables, Grouped}
+use Rattle.groups.specs.Constraints.{Between, More, Obeys, Ring, oddb, ringb}
+use Rattle.groups.specs.Groups.{Tables}
 use Rattle.groups.proofs.Groups.{conflict}
-use Rattle.choice.specs.Choice.{Drawable, Proper, Outdone}
-use Rattle.choice.specs.Inside.{Closed, Taken, Together, Unkept}
-use Rattle.choice.proofs.Tying.{link-back}
+use Rattle.choice.specs.Choice.{Drawable, Proper}
+use Rattle.ties.specs.Inside.{Closed, Taken, Together, Unkept}
+use Rattle.ties.proofs.Tying.{link-back}
 
 -- a ring has a "different"
 odd-of : (n : ℕ) (line kind : ℕ → ℕ) → ringb n line kind ≡ true → (j : ℕ) × (j < n) × (kind j ≡ 0 → ⊥)

@@ -1,7 +1,7 @@
 -- What next choice returns, one lemma for each place where it does.
 use mathlib.Core.Bool.{Bool, true, false}
 use mathlib.Core.List.{List}
-use mathlib.Core.Logic.{_⊎_, inl, inr}
+use mathlib.Core.Logic.{inl, inr}
 use mathlib.Core.Path.{_≡_, refl, sym, ap, _∙_, subst}
 use Prim.Native.Nat.{ℕ, _+_, _-_, _/_, _≤_, _<_}
 use native.Mathlib.Omega.{arith}
@@ -9,7 +9,6 @@ use lib.ListN.{length}
 use borrow.Author.Tests.{lt-ltb, le-ltb}
 use Rattle.laws.specs.Tests.{either}
 use Rattle.laws.specs.Checks.{check}
-use Rattle.laws.proofs.Cases.{cases, true-false}
 use Rattle.laws.proofs.Tests.{either-first, either-second, either-no}
 use Rattle.network.specs.Network.{Network, network}
 use Rattle.network.specs.Numbers.{refused, done, oversize, odd}
@@ -25,12 +24,12 @@ use Rattle.search.proofs.Grows.{grown}
 use Rattle.search.proofs.Calls.{explored}
 use Rattle.groups.specs.Order.{at}
 use Rattle.groups.specs.Groups.{fitsb}
-use Rattle.groups.specs.Calls.{Reading, stepped, Advanced, Stuck}
+use Rattle.groups.specs.Calls.{Reading, stepped}
 use Rattle.choice.specs.Choice.{Proper, Outdone}
 use Rattle.choice.specs.Calls.{cramped-next, Unmoved, Stepped, NextChoice}
-use Rattle.choice.specs.Inside.{Grouping}
-use Rattle.choice.specs.declared.Groups.{Groups}
-use Rattle.choice.specs.declared.Tie.the-variants.{Holds, Tears}
+use Rattle.grouping.specs.Inside.{Grouping}
+use Rattle.grouping.specs.declared.Groups.{Groups}
+use Rattle.ties.specs.declared.Tie.the-variants.{Holds, Tears}
 use Rattle.choice.proofs.Answering.{past-kept, explored-tree, explored-done, sorted-reading, sorted-fits, sorted-fails, sorted-next, sorted-last, torn-improper}
 
 module _ (n : ℕ) (ends choice : List ℕ) (two : Bool) (is-two : two ≡ oversize n (length ends)) where

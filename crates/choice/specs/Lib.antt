@@ -1,5 +1,4 @@
 -- What first choice and next choice say.
 pub mod Choice
 pub mod Calls
-pub mod Listing
 pub mod Inside

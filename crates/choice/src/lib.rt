@@ -1,32 +1,16 @@
 // Left and right: the first aligned choice of a network, and the next one after a given one.
 //
-// `first` and `next` are the calls; their contracts cite specs/Calls.antt. `sorting::is_aligned` is the question that draw asks too.
-mod forks;
-pub mod sorting;
-mod ties;
-mod ways;
-
-ghost use mathlib.Core.Path.{_≡_};
-ghost use Prim.Native.Nat.{ℕ, _/_, _≤_, _<_};
+// `first` and `next` are the calls; their contracts cite specs/Calls.antt. `is_aligned` is the question that draw asks too.
+ghost use Prim.Native.Nat.{ℕ, _≤_};
 ghost use lib.ListN.{length};
+ghost use Rattle.tree.specs.Tree.{«tree-of»};
+ghost use Rattle.fork.specs.Inside.{Known};
+ghost use Rattle.groups.specs.Order.{at};
+ghost use Rattle.choice.specs.Choice.{Proper};
 ghost use Rattle.choice.specs.Calls.{FirstChoice, NextChoice};
+ghost use Rattle.choice.specs.Inside.{Decides};
 use network::Answer;
-
-// What taking in links came to: all are obeyed, or the one between two lines, of a kind, can't be.
-pub enum Tie {
-    Holds,
-    Tears(usize, usize, u8),
-}
-
-// The groups of back lines that links hold together: for each line its leader, its side where the leader is left, and the link that joined the
-// group it led.
-pub struct Groups {
-    pub tie: Tie,
-    pub leader: [u16; 2048],
-    pub parity: [u8; 2048],
-    pub from: [u16; 2048],
-    pub to: [u16; 2048],
-}
+use ties::Tie;
 
 // Writes the first aligned choice, and answers how many back lines there are. Where no choice obeys the fork rule it answers 7 with the length of a
 // ring of constraints that shows why, and writes the ring.
@@ -64,7 +48,7 @@ pub fn first(
     let kinds = found.kinds;
     let heights = found.heights;
     let parents = found.parents;
-    let sorted = sorting::grouped(vertices, lines, ends, &kinds, &heights, &parents);
+    let sorted = grouping::grouped(vertices, lines, ends, &kinds, &heights, &parents);
     let tie = sorted.tie;
     let parity = sorted.parity;
     let from = sorted.from;
@@ -75,7 +59,7 @@ pub fn first(
             Answer::done(lines + 1 - vertices, 0)
         }
         Tie::Tears(b, d, kind) => {
-            let size = groups::ring::show(
+            let size = rings::show(
                 lines,
                 &parity,
                 &from,
@@ -117,7 +101,7 @@ pub fn next(vertices: usize, ends: &[u16], choice: &mut [u8]) -> Answer
     let kinds = found.kinds;
     let heights = found.heights;
     let parents = found.parents;
-    let sorted = sorting::grouped(vertices, lines, ends, &kinds, &heights, &parents);
+    let sorted = grouping::grouped(vertices, lines, ends, &kinds, &heights, &parents);
     let tie = sorted.tie;
     let leader = sorted.leader;
     let parity = sorted.parity;
@@ -131,4 +115,27 @@ pub fn next(vertices: usize, ends: &[u16], choice: &mut [u8]) -> Answer
         return Answer::refused(9);
     }
     Answer::done(lines + 1 - vertices, 0)
+}
+
+// Whether a lent choice is aligned, and written as it should be.
+pub fn is_aligned(
+    vertices: usize,
+    lines: usize,
+    ends: &[u16],
+    kinds: &[u8; 2048],
+    heights: &[u16; 512],
+    parents: &[u16; 512],
+    choice: &[u8],
+) -> bool
+    requires { ⌜ Known vertices lines (now ends) (now kinds) (now heights) (now parents) × (lines ≤ length (now choice)) ⌝ }
+    ensures { λ r. ⌜ Decides (Proper (tree-of vertices lines (now (ends .entry)) (now (kinds .entry)) (now (heights .entry)) (now (parents .entry))) (at (now (choice .entry)))) r ⌝ }
+{
+    let found = grouping::grouped(vertices, lines, ends, kinds, heights, parents);
+    let tie = found.tie;
+    let leader = found.leader;
+    let parity = found.parity;
+    match tie {
+        Tie::Holds => groups::choice::fits(lines, &leader, &parity, choice),
+        Tie::Tears(_, _, _) => false,
+    }
 }

@@ -24,14 +24,16 @@ use Rattle.search.specs.Machine.{tree-in}
 use Rattle.search.specs.Orient.{Explored, unsearched, searched as searched-of}
 use Rattle.search.specs.declared.Search.{Search}
 use Rattle.search.proofs.Calls.{explored}
-use Rattle.fork.specs.Inside.{Known, Tabled}
-use Rattle.fork.specs.declared.Forks.{Forks}
+use Rattle.fork.specs.Inside.{Known}
+use Rattle.returns.specs.Inside.{Tabled}
+use Rattle.returns.specs.declared.Forks.{Forks}
 use Rattle.groups.specs.Order.{at}
 use Rattle.choice.specs.Choice.{Proper}
 use Rattle.choice.specs.Inside.{Decides}
 use Rattle.choice.proofs.Answering.{explored-known, explored-tree}
+use Rattle.clockwise.specs.Ordering.{Orderable}
 use Rattle.drawing.specs.Draw.{meshes-in, size-list-in, cramped-draw, Balanced, Undrawn, Drew, Draw}
-use Rattle.drawing.specs.Ordering.{Orderable, Drawn}
+use Rattle.drawing.specs.Drawing.{Drawn}
 use Rattle.drawing.specs.Settling.{Settling, Settled}
 use Rattle.drawing.proofs.Rooted.{root-low, rooted}
 

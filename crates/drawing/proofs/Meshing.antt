@@ -3,7 +3,7 @@
 use mathlib.Core.Bool.{Bool, true}
 use mathlib.Core.List.{List, [], _∷_, _++_, map}
 use mathlib.Core.Path.{_≡_, refl, sym, _∙_, ap, subst}
-use Prim.Native.Nat.{ℕ, zero, suc, _+_, _-_, _*_, _/_, _≤_, _<_}
+use Prim.Native.Nat.{ℕ, zero, suc, _+_, _*_, _/_, _≤_, _<_}
 use native.Mathlib.Numerals.{add-one}
 use native.Mathlib.Omega.{arith}
 use lib.ListN.{length, getD, take, drop}
@@ -21,15 +21,17 @@ use Rattle.laws.proofs.Places.{from-snoc}
 use Rattle.network.specs.Network.{Network, network-of}
 use Rattle.network.specs.Inside.{Fit}
 use Rattle.tree.specs.Tree.{Tree, tree-of}
-use Rattle.drawing.specs.Order.{order-at, flat}
-use Rattle.drawing.specs.Meshes.{opposite, leave, follow, turned, step, either-way, mesh-of, mesh-count, borders, mesh-size, mesh-list, size-list}
-use Rattle.drawing.specs.Inside.{table, every, Whole, order-in, Laid, Linked, Numberable, Numbered, on-mesh, Meshed, Sized}
-use Rattle.drawing.specs.Laying.{Laid-out}
-use Rattle.drawing.specs.Ordering.{Orderable, Drawn}
-use Rattle.drawing.proofs.Directions.{opposite-below}
-use Rattle.drawing.proofs.Turning.{turn}
-use Rattle.drawing.proofs.Flat.{flat-next, flat-rises, flat-full}
-use Rattle.drawing.proofs.Ordering.{all-live, order-fits, order-whole}
+use Rattle.meshes.specs.Meshes.{opposite, leave, follow, turned, step, either-way, mesh-of, mesh-count, borders, mesh-size, mesh-list, size-list}
+use Rattle.meshes.specs.Inside.{every, Whole, order-in, Laid, Linked, Numberable, Numbered, on-mesh, Meshed, Sized}
+use Rattle.meshes.proofs.Directions.{opposite-below}
+use Rattle.meshes.proofs.Turning.{turn}
+use Rattle.fans.specs.Chains.{table}
+use Rattle.clockwise.specs.Order.{order-at, flat}
+use Rattle.clockwise.specs.Laying.{Laid-out}
+use Rattle.clockwise.specs.Ordering.{Orderable}
+use Rattle.clockwise.proofs.Flat.{flat-next, flat-rises, flat-full}
+use Rattle.clockwise.proofs.Ranking.{all-live, order-fits, order-whole}
+use Rattle.drawing.specs.Drawing.{Drawn}
 
 -- a list by its places
 take-map : (f : ℕ → ℕ) (k : ℕ) (l : List ℕ) → k ≤ length l → ((i : ℕ) → i < k → getD l i 0 ≡ f i) → take k l ≡ map f (upto k)

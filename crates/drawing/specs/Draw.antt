@@ -14,8 +14,8 @@ use Rattle.network.specs.declared.Answer.{Answer}
 use Rattle.search.specs.Machine.{tree-in}
 use Rattle.groups.specs.Order.{at}
 use Rattle.choice.specs.Choice.{Proper}
-use Rattle.drawing.specs.Order.{order-at, flat}
-use Rattle.drawing.specs.Meshes.{mesh-count, mesh-list, size-list}
+use Rattle.meshes.specs.Meshes.{mesh-count, mesh-list, size-list}
+use Rattle.clockwise.specs.Order.{order-at, flat}
 
 -- The clockwise order that a choice gives a network, and its meshes: how many, the mesh of each direction, the size of each mesh.
 abbrev pub clockwise-in : Network → List ℕ → ℕ → List ℕ

@@ -1,22 +1,13 @@
 // The drawing: the clockwise order of the lines at each vertex, and the meshes.
 //
-// `draw` is the call; its contract cites specs/Draw.antt, whose words stand on the definitions of specs/Order.antt and specs/Meshes.antt. `drawn` makes the
-// drawing, from the tables of a finished search, those of the returns of each line, and a choice.
-mod chains;
-mod fans;
-mod meshes;
-mod nests;
-mod orders;
-mod turns;
-mod walks;
-mod ways;
-
+// `draw` is the call; its contract cites specs/Draw.antt, whose words stand on the definitions of clockwise/specs/Order.antt and
+// meshes/specs/Meshes.antt. `drawn` makes the drawing, from the tables of a finished search, those of the returns of each line, and a choice.
 ghost use mathlib.Core.Path.{_≡_};
 ghost use Prim.Native.Nat.{ℕ, _+_, _*_, _/_, _≤_, _<_};
-ghost use lib.ListN.{length};
+ghost use Rattle.clockwise.specs.Ordering.{Orderable};
 ghost use Rattle.drawing.specs.Draw.{«cramped-draw», Draw};
 ghost use Rattle.drawing.specs.Settling.{Settling, Settled};
-ghost use Rattle.drawing.specs.Ordering.{Orderable, Drawn};
+ghost use Rattle.drawing.specs.Drawing.{Drawn};
 use network::Answer;
 
 // The flat order, how many meshes there are, the mesh of each direction, and the size of each mesh.
@@ -57,10 +48,10 @@ pub fn draw(
     let kinds = found.kinds;
     let heights = found.heights;
     let parents = found.parents;
-    if !choice::sorting::is_aligned(vertices, lines, ends, &kinds, &heights, &parents, choice) {
+    if !choice::is_aligned(vertices, lines, ends, &kinds, &heights, &parents, choice) {
         return Answer::refused(8);
     }
-    let returns = fork::forked(vertices, lines, ends, &kinds, &heights, &parents);
+    let returns = returns::forked(vertices, lines, ends, &kinds, &heights, &parents);
     let sources = returns.sources;
     let lows = returns.lows;
     let highs = returns.highs;
@@ -138,7 +129,7 @@ fn settled(
 }
 
 // The drawing that a choice gives. A lone vertex has one mesh, with no line on it.
-pub fn drawn(
+fn drawn(
     vertices: usize,
     lines: usize,
     ends: &[u16],
@@ -155,7 +146,7 @@ pub fn drawn(
     ensures { λ r. ⌜ Drawn vertices lines (now (ends .entry)) (now (kinds .entry)) (now (heights .entry)) (now (parents .entry)) (now (choice .entry))
         (r .order) (r .count) (r .mesh) (r .sizes) ⌝ }
 {
-    let laid = orders::ordered(
+    let laid = clockwise::ordered(
         vertices,
         lines,
         ends,
@@ -170,7 +161,7 @@ pub fn drawn(
     );
     let order = laid.order;
     let starts = laid.starts;
-    let nexts = turns::linked(vertices, lines, ends, &order, &starts);
+    let nexts = meshes::turns::linked(vertices, lines, ends, &order, &starts);
     let found = meshes::numbered(2 * lines, &nexts);
     let mesh = found.mesh;
     let sizes = meshes::sized(lines, &mesh);

@@ -4,10 +4,10 @@ use mathlib.Core.Path.{_≡_}
 use Prim.Native.Nat.{ℕ, _≤_, _<_}
 use lib.Dec.{eqb, ltb, leb}
 use Rattle.laws.specs.Tests.{both, either, all, any}
+use Rattle.side.specs.Sides.{right}
 use Rattle.tree.specs.Tree.{Tree}
 use Rattle.tree.specs.Returns.{end, backb, returnb, low}
 use Rattle.tree.specs.Words.{Line, TreeLine, BackLine, Return}
-use Rattle.side.specs.Sides.{right}
 use Rattle.fork.specs.Ends.{Lowest, lowestb}
 
 -- A fork: two different lines that leave one vertex.

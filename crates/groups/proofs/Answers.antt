@@ -9,11 +9,9 @@ use Rattle.groups.specs.Order.{at, Agree, First, Next, Last}
 use Rattle.groups.specs.Constraints.{Constraints, Between, More, Keeps, BackLine, Obeys, Ring}
 use Rattle.groups.specs.Groups.{Tables, tables, Grouped}
 use Rattle.groups.specs.Calls.{Room, Started, Joinable, joined, Reading, Copied, Advanced, Stuck}
-use Rattle.groups.specs.Rings.{Torn, Showing, Shown}
 use Rattle.groups.specs.declared.Joining.the-variants.{Agrees, Conflicts, Joins}
 use Rattle.groups.proofs.Order.{first-agree}
 use Rattle.groups.proofs.Groups.{None, grouped-none, grouped-agrees, grouped-joined, conflict}
-use Rattle.groups.proofs.Showing.{torn, ring-shown}
 use Rattle.groups.proofs.Choosing.{parity-first, parity-obeys, turned-next, no-pivot-last}
 
 -- The start
@@ -46,31 +44,6 @@ module _ (lines : ℕ) (back : ℕ → Bool) (P : Constraints) (b d kind : ℕ) 
 
     pub after-conflicts : joined lines b d kind t t′ Conflicts → (s : ℕ → ℕ) → Keeps (More P b d kind) s → ⊥
     after-conflicts j = conflict lines back P t g b d kind hb hd (j .0) (j .1)
-
--- The ring, after a conflict
-
-module _ (lines : ℕ) (back : ℕ → Bool) (P : Constraints) (b d kind : ℕ) (hb : BackLine lines back b) (hd : BackLine lines back d)
-    (leader parity from to leader′ parity′ from′ to′ : List ℕ) (g : Grouped lines back P (tables leader parity from to))
-    (j : joined lines b d kind (tables leader parity from to) (tables leader′ parity′ from′ to′) Conflicts) where
-  pub showing : (ring kinds : List ℕ) → kind ≤ 1 → (b ≡ d → ⊥) → Room lines leader′ parity′ from′ to′ → lines ≤ length ring → lines ≤ length kinds
-      → Showing lines b d kind parity′ from′ to′ ring kinds
-  showing ring kinds small apart r x y =
-      record {
-        conflict =
-            subst (λ (t : Tables). Torn lines (t .parity) (t .from) (t .to) b d kind) (sym (j .2))
-            (torn lines back P (tables leader parity from to) (tables leader′ parity′ from′ to′) g b d kind hb hd (r .few) small apart j);
-        parities = r .parities;
-        froms = r .froms;
-        tos = r .tos;
-        ring-room = x;
-        kind-room = y;
-      }
-
-  pub ring-after : (n : ℕ) (ring kinds ring′ kinds′ : List ℕ)
-      → Shown lines (at parity′) (at from′) (at to′) b d kind n ring kinds ring′ kinds′ → Ring (Between (More P b d kind)) n (at ring′) (at kinds′)
-  ring-after n ring kinds ring′ kinds′ s =
-      ring-shown lines back P (tables leader′ parity′ from′ to′) (tables leader′ parity′ from′ to′)
-      (subst (λ (t : Tables). Grouped lines back P t) (sym (j .2)) g) b d kind hb hd n ring kinds ring′ kinds′ s
 
 -- The choices
 

@@ -2,8 +2,6 @@
 //
 // Its contracts cite specs/Groups.antt and, for what is between these functions alone, specs/Calls.antt.
 pub mod choice; // the first choice, the next choice, the test of a choice
-mod circle; // a chain of lines read as a ring
-pub mod ring; // the ring that shows a conflict
 
 ghost use mathlib.Core.Path.{_≡_};
 ghost use Prim.Native.Nat.{ℕ, _+_, _%_, _≤_, _<_};
@@ -75,14 +73,14 @@ pub fn join(
 }
 
 // A number as an index.
-fn wide(x: u16) -> usize
+pub fn wide(x: u16) -> usize
     ensures { λ r. ⌜ Wide x r ⌝ }
 {
     x as usize
 }
 
 // 1 where the sum is odd, 0 where it is even.
-fn odd(x: u8, y: u8, kind: u8) -> u8
+pub fn odd(x: u8, y: u8, kind: u8) -> u8
     ensures { λ r. ⌜ r ≡ (x + y + kind) % 2 ⌝ }
 {
     ((x as usize + y as usize + kind as usize) % 2) as u8

@@ -19,7 +19,7 @@ use Rattle.text.specs.Text.{vertices-in, lines-in, ends-in, has-form}
 use Rattle.text.specs.Calls.{Read}
 use Rattle.text.proofs.TextBack.{length-ends-in}
 use Rattle.text.proofs.Accepted.{take-filled, not-odd, formed-map, Sound, sound-inside, Accepts, Took, read-done}
-use Rattle.choice.specs.Listing.{Accepted}
+use Rattle.listed.specs.Listing.{Accepted}
 use Rattle.listing.specs.Page.{answer-line, Shows, Prints}
 use Rattle.listing.specs.Inside.{Put, Showable, Paged}
 use Rattle.listing.proofs.Putting.{answer-long}

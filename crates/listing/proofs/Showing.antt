@@ -19,8 +19,8 @@ use Rattle.search.specs.Orient.{back-lines}
 use Rattle.groups.specs.Order.{at}
 use Rattle.choice.specs.Choice.{Drawable, Proper}
 use Rattle.choice.specs.Calls.{Chosen, Ringed, FirstChoice}
-use Rattle.choice.proofs.Granted.{fit, granted}
-use Rattle.choice.proofs.Outcomes.{first-says}
+use Rattle.listed.proofs.Granted.{fit, granted}
+use Rattle.listed.proofs.Outcomes.{first-says}
 use Rattle.drawing.specs.Draw.{Draw, cramped-draw, Balanced, Undrawn, Drew, meshes-in}
 use Rattle.cornetariel.proofs.Packing.{backs-few}
 use Rattle.listing.specs.Page.{answer-line, counts-line, ring-page, Sheet, Listed, Torn, Shows}

@@ -26,8 +26,8 @@ use Rattle.side.specs.Sides.{none}
 use Rattle.groups.specs.Order.{at, Next}
 use Rattle.choice.specs.Choice.{Proper, Outdone}
 use Rattle.choice.specs.Calls.{Unmoved, Stepped, NextChoice}
-use Rattle.choice.specs.Listing.{Accepted}
-use Rattle.choice.proofs.Outcomes.{next-says}
+use Rattle.listed.specs.Listing.{Accepted}
+use Rattle.listed.proofs.Outcomes.{next-says}
 use Rattle.digits.specs.Digits.{digits}
 use Rattle.listing.specs.Page.{answer-line, side-digits, choice-line, Choices}
 use Rattle.listing.specs.Inside.{Put, has-side, Listable, PutChoices}

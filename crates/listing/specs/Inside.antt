@@ -13,7 +13,7 @@ use Rattle.search.specs.Machine.{tree-in}
 use Rattle.search.specs.Orient.{back-lines}
 use Rattle.groups.specs.Order.{at}
 use Rattle.choice.specs.Choice.{Proper}
-use Rattle.choice.specs.Listing.{Accepted}
+use Rattle.listed.specs.Listing.{Accepted}
 use Rattle.listing.specs.Page.{Prints, Shows, Choices}
 
 -- A piece was put at a place of a buffer, and r is the place after it.

@@ -13,7 +13,7 @@ pub struct Chain {
 }
 
 // Filled from the last half-line down, so that each goes before what its vertex had.
-pub fn chained(ends: &[u16]) -> Chain
+pub(crate) fn chained(ends: &[u16]) -> Chain
     requires { ⌜ Halves (now ends) ⌝ }
     ensures { λ r. ⌜ Chained (now (ends .entry)) (r .heads) (r .nexts) ⌝ }
 {

@@ -9,7 +9,7 @@ ghost use Rattle.search.specs.Inside.{Chained, partner, Halved, Enterabl
 use network::wide;
 
 // Visits v, which is found: goes along each line at v that is unused when its turn comes, the lowest number first, and returns.
-pub fn visit(
+pub(crate) fn visit(
     vertices: usize,
     lines: usize,
     v: usize,

@@ -30,7 +30,7 @@ use Rattle.groups.specs.Order.{at, Agree, First, Next, Last}
 use Rattle.groups.proofs.Order.{first-once, next-list}
 use Rattle.choice.specs.Choice.{Drawable, Proper, Outdone}
 use Rattle.choice.specs.Calls.{cramped-first, Untouched, Chosen, Ringed, cramped-next, Unmoved, Stepped, NextChoice}
-use Rattle.drawing.specs.Meshes.{size-list}
+use Rattle.meshes.specs.Meshes.{size-list}
 use Rattle.drawing.specs.Draw.{clockwise-in, meshes-in, size-list-in, mesh-list-in, Balanced, cramped-draw, Undrawn, Drew, Draw}
 use Rattle.trials.specs.Trials.{Claim, back-lines-are, choices-are, next-is, none-after, not-aligned, must-agree, ring-is, mesh-count-is, sizes-are, meshes-are, clockwise-is, Trial, trial, refused-by, granted, ends-of, written, directions, Every, buffer, choice, Good, Onward, Choices, Draws, True, Holds}
 use Rattle.trials.specs.Answers.{OfFirst, OfDraw, FirstGives, NextGives, NextRefuses, NextLists, CallsList, Said, Refuses, Answered}

@@ -13,7 +13,7 @@ use Rattle.fork.specs.Fork.{Constraint, same-side, other-side, sameb, different
 use Rattle.fork.proofs.Rule.{same-of, different-of}
 use Rattle.fork.proofs.Choices.{legal-even}
 use Rattle.groups.specs.Constraints.{same, different, ringb, Ring}
-use Rattle.groups.proofs.Rings.{ring-refutes}
+use Rattle.rings.proofs.Rings.{ring-refutes}
 use Rattle.choice.specs.Choice.{Drawable}
 
 module _ (S : Tree) where

@@ -15,8 +15,9 @@ use Rattle.search.specs.Inside.{everyone}
 use Rattle.fork.specs.Ends.{lowestb, high, more, top, highestb}
 use Rattle.fork.specs.Fork.{forkb, groupb, sameb, differentb, levelb, wherever, legalb, alignedb}
 use Rattle.groups.specs.Constraints.{apartb, oddb, orderedb, ringb}
-use Rattle.drawing.specs.Order.{side-of as line-side, leaving, rank, nested, fan, discovered, incoming, beside, clockwise}
-use Rattle.drawing.specs.Meshes.{opposite, leave as leave-by, follow-in, turned, step as next-direction, mesh-of, mesh-count, borders, mesh-size, mesh-list, size-list}
+use Rattle.fans.specs.Fan.{side-of as line-side, leaving, rank, nested, fan}
+use Rattle.clockwise.specs.Order.{discovered, incoming, beside, clockwise}
+use Rattle.meshes.specs.Meshes.{opposite, leave as leave-by, follow-in, turned, step as next-direction, mesh-of, mesh-count, borders, mesh-size, mesh-list, size-list}
 use Rattle.trials.specs.Trials.{side-of, sides, written, directions, Every, Holds}
 use Rattle.trials.specs.Table.{table}
 use Rattle.trials.proofs.Lists.{alike}

@@ -1,5 +1,5 @@
 -- The order, the mesh map's table, the meshes, their sizes.
-use Rattle.drawing.proofs.Ordering.{order-fits}
+use Rattle.clockwise.proofs.Ranking.{order-fits}
 use Rattle.drawing.proofs.Meshing.{drawn-laid, drawn-numberable, drawn-meshed, drawn-lone, drawn-some}
 use borrow.Author.Needs.{needs}
 use Rattle.drawing.proofs.drawn.Statement.{statement}

@@ -1,0 +1,15 @@
+pub mod Leaving
+pub mod Discovered
+pub mod Clockwise
+pub mod Wholes
+pub mod Flat
+pub mod Starting
+pub mod Walking
+pub mod Rising
+pub mod Finding
+pub mod Grouping
+pub mod Spreading
+pub mod Stems
+pub mod Ranking
+pub mod Collecting
+pub mod Ordering

@@ -1,0 +1,4 @@
+-- The fans, and lists of lines as chains.
+pub mod Fan
+pub mod Nesting
+pub mod Chains

@@ -1,0 +1,4 @@
+pub mod Lasting
+pub mod Walking
+pub mod Crossing
+pub mod Settling

@@ -1,0 +1,6 @@
+pub mod Tight
+pub mod Granted
+pub mod Outcomes
+pub mod Enumerating
+pub mod Listed
+pub mod OneChoice

@@ -1,0 +1,84 @@
+-- What first choice and next choice must say of a network that no check refuses, given room: each case both ways round.
+use mathlib.Core.List.{List}
+use mathlib.Core.Logic.{inl, inr}
+use Prim.Native.Nat.{ℕ, _/_, _≤_}
+use lib.ListN.{length}
+use Rattle.laws.specs.Checks.{check}
+use Rattle.network.specs.Network.{network}
+use Rattle.network.specs.declared.Answer.{Answer}
+use Rattle.search.specs.Machine.{tree-in}
+use Rattle.groups.specs.Order.{at}
+use Rattle.choice.specs.Choice.{Drawable, Proper, Outdone}
+use Rattle.choice.specs.Calls.{cramped-first, Untouched, Chosen, Ringed, FirstChoice, cramped-next, Unmoved, Stepped, NextChoice}
+use Rattle.listed.specs.Listing.{Accepted}
+use Rattle.listed.proofs.Granted.{grant, granted, room-first, room-next}
+
+module _ (n : ℕ) (ends : List ℕ) (a : Accepted n ends) where
+  -- First choice
+
+  module _ (choice lines kinds : List ℕ) (bytes : length ends / 2 ≤ length choice) (ring : length ends / 2 ≤ length lines) (ring′ : length ends / 2 ≤ length kinds)
+      (r : Answer) (c l k : List ℕ) where
+    abbrev First : Type 0
+    First = check (Drawable (tree-in (network n ends))) (Chosen (network n ends) choice lines kinds r c l k) (Ringed (network n ends) choice lines kinds r c l k)
+
+    pub first-says : FirstChoice n ends choice lines kinds r c l k → First
+    first-says = granted n ends a (cramped-first ends choice lines kinds) (room-first n ends choice lines kinds bytes ring ring′) (Untouched choice lines kinds r c l k) First
+
+    pub first-drawable : Drawable (tree-in (network n ends)) → FirstChoice n ends choice lines kinds r c l k → Chosen (network n ends) choice lines kinds r c l k
+    first-drawable d f = go (first-says f)
+      where
+        go : First → Chosen (network n ends) choice lines kinds r c l k
+        go (inl (_, x)) = x
+        go (inr (e, x)) = absurd (e d)
+
+    pub first-undrawable : (Drawable (tree-in (network n ends)) → ⊥) → FirstChoice n ends choice lines kinds r c l k → Ringed (network n ends) choice lines kinds r c l k
+    first-undrawable e f = go (first-says f)
+      where
+        go : First → Ringed (network n ends) choice lines kinds r c l k
+        go (inl (d, x)) = absurd (e d)
+        go (inr (_, x)) = x
+
+    pub first-by : Drawable (tree-in (network n ends)) → Chosen (network n ends) choice lines kinds r c l k → FirstChoice n ends choice lines kinds r c l k
+    first-by d x = grant n ends a (cramped-first ends choice lines kinds) (room-first n ends choice lines kinds bytes ring ring′) (Untouched choice lines kinds r c l k) First (inl (d, x))
+
+  -- Next choice
+
+  module _ (choice : List ℕ) (bytes : length ends / 2 ≤ length choice) (r : Answer) (c : List ℕ) where
+    abbrev Later : Type 0
+    Later = check (Outdone (tree-in (network n ends)) (at choice)) (Stepped (network n ends) choice r c) (Unmoved choice r c 9)
+
+    abbrev Next : Type 0
+    Next = check (Proper (tree-in (network n ends)) (at choice)) Later (Unmoved choice r c 8)
+
+    pub next-says : NextChoice n ends choice r c → Next
+    next-says = granted n ends a (cramped-next ends choice) (room-next n ends choice bytes) (Unmoved choice r c) Next
+
+    pub next-improper : (Proper (tree-in (network n ends)) (at choice) → ⊥) → NextChoice n ends choice r c → Unmoved choice r c 8
+    next-improper e f = go (next-says f)
+      where
+        go : Next → Unmoved choice r c 8
+        go (inl (p, x)) = absurd (e p)
+        go (inr (_, x)) = x
+
+    module _ (p : Proper (tree-in (network n ends)) (at choice)) where
+      pub next-outdone : Outdone (tree-in (network n ends)) (at choice) → NextChoice n ends choice r c → Stepped (network n ends) choice r c
+      next-outdone d f = go (next-says f)
+        where
+          go : Next → Stepped (network n ends) choice r c
+          go (inl (_, inl (_, x))) = x
+          go (inl (_, inr (e, x))) = absurd (e d)
+          go (inr (e, x)) = absurd (e p)
+
+      pub next-last : (Outdone (tree-in (network n ends)) (at choice) → ⊥) → NextChoice n ends choice r c → Unmoved choice r c 9
+      next-last e f = go (next-says f)
+        where
+          go : Next → Unmoved choice r c 9
+          go (inl (_, inl (d, x))) = absurd (e d)
+          go (inl (_, inr (_, x))) = x
+          go (inr (e, x)) = absurd (e p)
+
+      pub next-by : Outdone (tree-in (network n ends)) (at choice) → Stepped (network n ends) choice r c → NextChoice n ends choice r c
+      next-by d x = grant n ends a (cramped-next ends choice) (room-next n ends choice bytes) (Unmoved choice r c) Next (inl (p, inl (d, x)))
+
+      pub next-none : (Outdone (tree-in (network n ends)) (at choice) → ⊥) → Unmoved choice r c 9 → NextChoice n ends choice r c
+      next-none e x = grant n ends a (cramped-next ends choice) (room-next n ends choice bytes) (Unmoved choice r c) Next (inl (p, inr (e, x)))

@@ -1,0 +1,2 @@
+-- What the two calls list.
+pub mod Listing

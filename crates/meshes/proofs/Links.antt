@@ -1,0 +1,163 @@
+-- The table of the mesh map, vertex by vertex and place by place: what arrives by the line at one place leaves by the line at the next.
+use mathlib.Core.List.{List}
+use mathlib.Core.Logic.{_≢_}
+use mathlib.Core.Path.{_≡_, refl, sym, _∙_, ap, subst}
+use Prim.Native.Nat.{ℕ, _+_, _-_, _*_, _/_, _%_, _≤_, _<_}
+use native.Mathlib.Numerals.{add-one}
+use native.Mathlib.Omega.{arith}
+use lib.ListN.{length, getD, set, length-set, replicate, length-replicate}
+use lib.Seq.{getD-set-same, getD-set-other, getD-drop, getD-take, length-slice}
+use Rattle.laws.specs.Counting.{many}
+use Rattle.laws.proofs.Cases.{cases, eq-or, lt-or}
+use Rattle.laws.proofs.Orbits.{In}
+use Rattle.laws.proofs.Places.{place, place-at}
+use Rattle.network.specs.Network.{Network}
+use Rattle.network.specs.Inside.{Fit}
+use Rattle.meshes.specs.Meshes.{opposite, leave, turned, step, either-way}
+use Rattle.meshes.specs.Inside.{every, after, order-in, Laid, Linked}
+use Rattle.meshes.proofs.Directions.{opposite-even, opposite-odd, opposite-twice, opposite-below, leave-first, leave-second, leave-one, after-more, after-last, after-in}
+use Rattle.meshes.proofs.Turning.{once, member, member-way, stands}
+
+-- nothing stands twice: two places with one member are one place
+place-one : (r : List ℕ) → ((z : ℕ) → many z r ≤ 1) → (i j : ℕ) → i < length r → j < length r → getD r i 0 ≡ getD r j 0 → i ≡ j
+place-one r o i j h g z = sym (place-at 0 r i h (o (getD r i 0))) ∙ ap (λ (x : ℕ). place x r) z ∙ place-at 0 r j g (o (getD r j 0))
+
+module _ (net : Network) (fit : Fit net) (order starts : List ℕ) (laid : Laid net order starts) where
+  abbrev ends : List ℕ
+  ends = net .ends
+
+  abbrev rot : ℕ → List ℕ
+  rot = order-in order starts
+
+  abbrev from : ℕ → ℕ
+  from v = getD starts v 0
+
+  abbrev many-at : ℕ → ℕ
+  many-at v = getD starts (v + 1) 0 - getD starts v 0
+
+  part-long : (v : ℕ) → v < net .vertices → length (rot v) ≡ many-at v
+  part-long v h = length-slice (from v) (from (v + 1)) order (omega (arith, laid .inside v h, laid .order-long))
+
+  part-at : (v i : ℕ) → v < net .vertices → i < many-at v → getD (rot v) i 0 ≡ getD order (from v + i) 0
+  part-at v i h g = getD-drop (from v) _ i 0 ∙ getD-take (from (v + 1)) order (from v + i) 0 (omega arith)
+
+  -- the place i of v, as the code finds it
+  pub laid-line : (v i k : ℕ) → v < net .vertices → i < many-at v → k ≡ getD order (from v + i) 0 → k < net .lines
+  laid-line v i k h g e =
+      subst (λ (x : ℕ). x < net .lines) (part-at v i h g ∙ sym e)
+      (member net fit every rot (laid .whole) v i h (subst (λ (x : ℕ). i < x) (sym (part-long v h)) g) .0)
+
+  -- the first i places of v are done
+  pub record Linking (v i : ℕ) (nexts : List ℕ) : Type 0 where
+    pub before : Linked net order starts v nexts
+    pub upto : i ≤ many-at v
+    pub here : (j : ℕ) → j < i → getD nexts (opposite (leave ends v (getD (rot v) j 0))) 0 ≡ leave ends v (getD (rot v) (after (length (rot v)) j) 0)
+
+  pub linking-start : (v : ℕ) (nexts : List ℕ) → Linked net order starts v nexts → Linking v 0 nexts
+  linking-start v nexts L = record { before = L; upto = omega arith; here = λ j h. absurd (omega arith) }
+
+  module _ (v i : ℕ) (nexts : List ℕ) (h : v < net .vertices) (L : Linking v i nexts) (g : i < many-at v) where
+    in-part : i < length (rot v)
+    in-part = subst (λ (x : ℕ). i < x) (sym (part-long v h)) g
+
+    -- the direction at a place, the other way round, and that it is the place's own
+    back : ℕ → ℕ
+    back j = opposite (leave ends v (getD (rot v) j 0))
+
+    back-in : (j : ℕ) → j < length (rot v) → back j < 2 * net .lines
+    unfolding back
+    back-in j k = opposite-below _ (net .lines) (member-way net fit every rot (laid .whole) v j h k .0 .below)
+
+    -- two places have two directions
+    back-one : (j : ℕ) → j < length (rot v) → back j ≡ back i → j ≡ i
+    unfolding back
+    back-one j k q =
+        place-one (rot v) (λ z. once net fit every rot (laid .whole) v z h) j i k in-part
+        (leave-one ends v _ _ (sym (opposite-twice _) ∙ ap opposite q ∙ opposite-twice _))
+
+    pub linking-more : (d e : ℕ) → d ≡ opposite (leave ends v (getD order (from v + i) 0)) → e ≡ leave ends v (getD order (from v + after (many-at v) i) 0)
+        → Linking v (i + 1) (set nexts d e)
+    unfolding back
+    linking-more d e is-d is-e =
+        let n = length (rot v) in
+        let d-is : d ≡ back i = is-d ∙ ap (λ (x : ℕ). opposite (leave ends v x)) (sym (part-at v i h g)) in
+        let e-is : e ≡ leave ends v (getD (rot v) (after n i) 0) =
+        is-e ∙ ap (leave ends v) (ap (λ (x : ℕ). getD order (from v + after x i) 0) (sym (part-long v h))
+        ∙ sym (part-at v (after n i) h (subst (λ (x : ℕ). after n i < x) (part-long v h) (after-in n i in-part)))) in
+        let d-in : d < 2 * net .lines = subst (λ (x : ℕ). x < 2 * net .lines) (sym d-is) (back-in i in-part) in
+        let long = L .before .nexts-long in
+        record {
+          before =
+              record {
+                nexts-long = length-set nexts d e ∙ long;
+                so-far = λ x x-in x-at.
+                    getD-set-other nexts d x e 0
+                    (λ z.
+                    let q : getD ends (opposite x) 0 ≡ v =
+                    ap (λ (y : ℕ). getD ends (opposite y) 0) (z ∙ d-is)
+                    ∙ ap (λ (y : ℕ). getD ends y 0) (opposite-twice (leave ends v (getD (rot v) i 0)))
+                    ∙ member-way net fit every rot (laid .whole) v i h in-part .1 in
+                    omega arith)
+                    ∙ L .before .so-far x x-in x-at;
+              };
+          upto = omega arith;
+          here = λ j l.
+              cases (eq-or j i)
+              (λ q.
+              ap (λ (y : ℕ). getD (set nexts d e) y 0) (ap back q ∙ sym d-is)
+              ∙ getD-set-same nexts d e 0 (omega (arith, long, fit .few-lines))
+              ∙ e-is
+              ∙ ap (λ (y : ℕ). leave ends v (getD (rot v) (after n y) 0)) (sym q))
+              (λ q.
+              let q′ : j ≢ i = q in
+              getD-set-other nexts d (back j) e 0 (λ z. q (back-one j (omega (arith, in-part)) (z ∙ d-is))) ∙ L .here j (omega arith));
+        }
+
+  pub linking-done : (v i : ℕ) (nexts : List ℕ) → v < net .vertices → Linking v i nexts → many-at v ≤ i → Linked net order starts (v + 1) nexts
+  unfolding step
+  linking-done v i nexts h L g =
+      record {
+        nexts-long = L .before .nexts-long;
+        so-far = λ d d-in d-at.
+            cases (lt-or (getD ends (opposite d) 0) v)
+            (λ l. L .before .so-far d d-in l)
+            (λ l.
+            let x = opposite d in
+            let q : getD ends x 0 ≡ v = omega arith in
+            let w : In (2 * net .lines) (either-way every) x = record { below = opposite-below d (net .lines) d-in; yes = refl } in
+            let j = place (x / 2) (rot v) in
+            let s : (j < length (rot v)) × (leave ends v (getD (rot v) j 0) ≡ x) × (turned ends rot x ≡ leave ends v (getD (rot v) (after (length (rot v)) j) 0)) =
+            subst
+            (λ (u : ℕ).
+            (place (x / 2) (rot u) < length (rot u))
+            × (leave ends u (getD (rot u) (place (x / 2) (rot u)) 0) ≡ x)
+            × (turned ends rot x ≡ leave ends u (getD (rot u) (after (length (rot u)) (place (x / 2) (rot u))) 0)))
+            q
+            (let t = stands net fit every rot (laid .whole) x w in (t .place-below, t .itself, t .turns)) in
+            ap (λ (y : ℕ). getD nexts y 0) (sym (opposite-twice d) ∙ ap opposite (sym (s .1)))
+            ∙ L .here j (omega (arith, s .0, part-long v h, L .upto))
+            ∙ sym (s .2));
+      }
+
+  pub linked-start : Linked net order starts 0 (replicate {A = ℕ} 4096 0)
+  linked-start = record { nexts-long = length-replicate {A = ℕ} 4096 0; so-far = λ d h g. absurd (omega arith) }
+
+-- The small steps of the code
+
+pub place-more : (n i : ℕ) → i + 1 < n → i + 1 ≡ after n i
+place-more n i h = add-one i ∙ sym (after-more n i (subst (λ (x : ℕ). x < n) (add-one i) h))
+
+pub place-round : (n i : ℕ) → n ≤ i + 1 → 0 ≡ after n i
+place-round n i h = sym (after-last n i (subst (λ (x : ℕ). n ≤ x) (add-one i) h))
+
+pub way-first : (ends : List ℕ) (v k w : ℕ) → (w ≡ getD ends (2 * k) 0) × (w < 65536) → w ≡ v → 2 * k ≡ leave ends v k
+way-first ends v k w is-w e = sym (leave-first ends v k (sym (is-w .0) ∙ e))
+
+pub way-second : (ends : List ℕ) (v k w : ℕ) → (w ≡ getD ends (2 * k) 0) × (w < 65536) → (w ≡ v → ⊥) → 2 * k + 1 ≡ leave ends v k
+way-second ends v k w is-w d = sym (leave-second ends v k (λ e. d (is-w .0 ∙ e)))
+
+pub back-even : (d : ℕ) → d % 2 ≡ 0 → d + 1 ≡ opposite d
+back-even d e = add-one d ∙ sym (opposite-even d e)
+
+pub back-odd : (d : ℕ) → (d % 2 ≡ 0 → ⊥) → d - 1 ≡ opposite d
+back-odd d n = let n′ : d % 2 ≢ 0 = n in sym (opposite-odd d (omega arith))

@@ -1,0 +1,3 @@
+-- The meshes of an order.
+pub mod Meshes
+pub mod Inside

@@ -1,0 +1,6 @@
+pub mod Starting
+pub mod Climbing
+pub mod Offering
+pub mod Lowering
+pub mod Rivalry
+pub mod Topping

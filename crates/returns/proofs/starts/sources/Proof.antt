@@ -1,0 +1,88 @@
+-- `sources` fills its table line by line.
+use Prim.Native.Nat.{_-_}
+use Rattle.laws.proofs.Eachwise.{eachwise-start}
+use Rattle.tree.specs.Tree.{tree-of}
+use Rattle.fork.specs.Inside.{source}
+use Rattle.returns.proofs.Starting.{Filling, filled-table, place-in, placed, source-tree, source-back}
+use borrow.Author.Needs.{needs}
+use Rattle.returns.proofs.starts.sources.Statement.{statement}
+use Rattle.returns.proofs.starts.sources.Tie as tie
+
+abbrev Inv-loop : tie.InvT-loop
+Inv-loop vertices lines ends kinds heights parents table₀ k₀ table k =
+    Filling (tree-of vertices lines ends kinds heights parents) source k table
+
+abbrev μ-loop : tie.MeasureT-loop
+μ-loop vertices lines ends kinds heights parents table₀ k₀ table k =
+    lines - k
+
+loop-holds : tie.Need-loop-holds Inv-loop μ-loop
+loop-holds c = search eachwise-start
+
+add-after : tie.Need-add-after Inv-loop μ-loop
+add-after c = search needs
+
+element-copy-out-if1 : tie.Need-element-copy-out-if1 Inv-loop μ-loop
+element-copy-out-if1 c = search place-in
+
+lower-end-requires : tie.Need-lower-end-requires Inv-loop μ-loop
+lower-end-requires c κs = search placed
+
+cast-table : tie.Need-cast-table Inv-loop μ-loop
+cast-table c = search needs
+
+mul-table : tie.Need-mul-table Inv-loop μ-loop
+mul-table c = search needs
+
+array-write-table : tie.Need-array-write-table Inv-loop μ-loop
+array-write-table c = search place-in
+
+higher-end-requires : tie.Need-higher-end-requires Inv-loop μ-loop
+higher-end-requires c κs = search placed
+
+cast-table-2 : tie.Need-cast-table-2 Inv-loop μ-loop
+cast-table-2 c = search needs
+
+mul-table-2 : tie.Need-mul-table-2 Inv-loop μ-loop
+mul-table-2 c = search needs
+
+array-write-table-2 : tie.Need-array-write-table-2 Inv-loop μ-loop
+array-write-table-2 c = search place-in
+
+loop-less : tie.Need-loop-less Inv-loop μ-loop
+loop-less c = search needs
+
+loop-again : tie.Need-loop-again Inv-loop μ-loop
+loop-again c = search source-tree
+
+loop-less-2 : tie.Need-loop-less-2 Inv-loop μ-loop
+loop-less-2 c = search needs
+
+loop-again-2 : tie.Need-loop-again-2 Inv-loop μ-loop
+loop-again-2 c = search source-back
+
+returns : tie.Need-returns Inv-loop μ-loop
+returns c = search filled-table
+
+pub sources-spec : {M : Type 1} → statement M
+sources-spec =
+    tie.close
+    (tie.spec
+    Inv-loop
+    μ-loop
+    loop-holds
+    add-after
+    element-copy-out-if1
+    lower-end-requires
+    cast-table
+    mul-table
+    array-write-table
+    higher-end-requires
+    cast-table-2
+    mul-table-2
+    array-write-table-2
+    loop-less
+    loop-again
+    loop-less-2
+    loop-again-2
+    returns)

@@ -1,0 +1,2 @@
+-- What each line's returns are like, as tables.
+pub mod Inside

@@ -1,0 +1,166 @@
+-- From a conflict to a ring: the chain from d to b and the step from b back to d are a circle, of which that step alone does not agree with the
+-- parities; and between different lines the steps are constraints taken in.
+use mathlib.Core.Bool.{Bool, true, false}
+use mathlib.Core.List.{List}
+use mathlib.Core.Logic.{inl, inr}
+use mathlib.Core.Path.{_≡_, sym, _∙_, ap, subst}
+use Prim.Native.Nat.{ℕ, suc, _+_, _-_, _%_, _≤_, _<_}
+use native.Mathlib.Omega.{arith}
+use lib.ListN.{length}
+use borrow.Author.Tests.{eq-eqb, ne-eqb}
+use Rattle.laws.proofs.Cases.{cases, eq-or, lt-or}
+use Rattle.groups.specs.Order.{at}
+use Rattle.groups.specs.Constraints.{Constraints, Between, More, BackLine, Ring}
+use Rattle.groups.specs.Groups.{Tables, tables, Grouped}
+use Rattle.groups.specs.Calls.{Room, joined}
+use Rattle.groups.specs.declared.Joining.the-variants.{Conflicts}
+use Rattle.groups.proofs.Ways.{way-append, way-turn}
+use Rattle.rings.specs.Rings.{Showing, Drawn, Torn, Chain, Lowest, wrap, kindOf, spotOf, linkOf, Upward, TracedLines, TracedKinds, Shown}
+use Rattle.rings.proofs.Rings.{ring-map, ring-agree}
+use Rattle.rings.proofs.Circles.{wrap-low, wrap-high, Hop, Circle, up-ring, down-ring}
+
+kind-last : (parity line : ℕ → ℕ) (n k i : ℕ) → suc i ≡ n → kindOf parity line n k i ≡ k
+unfolding kindOf
+kind-last parity line n k i e = rw (eq-eqb (suc i) n e)
+
+kind-step : (parity line : ℕ → ℕ) (n k i : ℕ) → (suc i ≡ n → ⊥) → kindOf parity line n k i ≡ (parity (line i) + parity (line (suc i))) % 2
+unfolding kindOf
+kind-step parity line n k i e = rw (ne-eqb (suc i) n e)
+
+module _ (lines b d k : ℕ) (parity from to : ℕ → ℕ) where
+  abbrev Links : Constraints
+  Links = Between (Drawn lines parity from to b d k)
+
+  turned : (u v z : ℕ) → Links u v z → Links v u z
+  turned u v z l = cases l inr inl
+
+  module _ (torn : Torn lines parity from to b d k) (n : ℕ) (line : ℕ → ℕ) (c : Chain lines b d from to n line) where
+    kind : ℕ → ℕ
+    kind = kindOf parity line n k
+
+    two : 2 ≤ n
+    two =
+        cases (lt-or n 2)
+        (λ h. absurd (torn .apart (sym (c .last 0 (omega (arith, c .some))) ∙ c .first)))
+        (λ h. h)
+
+    hop-home : (i : ℕ) → suc i ≡ n → Hop Links parity (n - 1) i (kindOf parity line n k i) (line i) (line 0)
+    hop-home i h =
+        let e = kind-last parity line n k i h in
+        record {
+          link = inl (inr (c .last i h, c .first, e));
+          small = omega (arith, torn .small);
+          even = λ o. absurd (o (omega arith));
+          odd = λ o. rw (e, c .last i h, c .first) (torn .odd);
+        }
+
+    hop-on : (i : ℕ) → suc i < n → Hop Links parity (n - 1) i (kindOf parity line n k i) (line i) (line (suc i))
+    hop-on i h =
+        let e = kind-step parity line n k i (λ z. omega arith) in
+        record {
+          link =
+              cases (c .steps i h)
+              (λ j. inr (inl (j, omega arith)))
+              (λ j. inl (inl (j, e)));
+          small = omega arith;
+          even = λ o. omega arith;
+          odd = λ o. absurd (omega arith);
+        }
+
+    circle : Circle Links parity n (n - 1) line (kindOf parity line n k)
+    circle =
+        record {
+          two = two;
+          within = omega (arith, two);
+          apart = c .apart;
+          hop = λ i h.
+              cases (lt-or (suc i) n)
+              (λ o. rw (wrap-low n (suc i) o) (hop-on i o))
+              (λ o.
+              let z : wrap n (suc i) ≡ 0 = wrap-high n (suc i) o ∙ omega arith in
+              rw z (hop-home i (omega arith)));
+        }
+
+    module _ (m : ℕ) (l : Lowest n line m) where
+      same-neighbour : n ≡ 2 → line (wrap n (m + 1)) ≡ line (wrap n (m + n - 1))
+      same-neighbour e = ap (λ (x : ℕ). line (wrap n x)) (omega arith)
+
+      up-shown : (ring ring′ kinds kinds′ : List ℕ) → Upward n (kindOf parity line n k m) (line (wrap n (m + 1))) (line (wrap n (m + n - 1))) true
+          → TracedLines line n m true ring ring′ → TracedKinds parity line n m true k kinds kinds′ → Ring Links n (at ring′) (at kinds′)
+      unfolding spotOf linkOf
+      up-shown ring ring′ kinds kinds′ u w w′ =
+          ring-agree Links n (λ j. line (wrap n (m + j))) (λ j. kindOf parity line n k (wrap n (m + j))) (at ring′) (at kinds′)
+          (up-ring Links turned parity n line (kindOf parity line n k) circle m (l .within) (l .low)
+          (cases (eq-or n 2) (λ e. omega (arith, same-neighbour e)) (λ o. u .1 o)) (u .0))
+          (w .written) (w′ .written)
+
+      down-shown : (ring ring′ kinds kinds′ : List ℕ) → Upward n (kindOf parity line n k m) (line (wrap n (m + 1))) (line (wrap n (m + n - 1))) false
+          → TracedLines line n m false ring ring′ → TracedKinds parity line n m false k kinds kinds′ → Ring Links n (at ring′) (at kinds′)
+      unfolding spotOf linkOf
+      down-shown ring ring′ kinds kinds′ u w w′ =
+          ring-agree Links n (λ j. line (wrap n (m + n - j))) (λ j. kindOf parity line n k (wrap n (m + n - suc j))) (at ring′) (at kinds′)
+          (down-ring Links turned parity n line (kindOf parity line n k) circle m (l .within) (l .low)
+          (cases (eq-or n 2) (λ e. omega (arith, same-neighbour e)) (λ o. u .1 o)) (u .0))
+          (w .written) (w′ .written)
+
+      pub shown : (up : Bool) (ring ring′ kinds kinds′ : List ℕ) → Upward n (kindOf parity line n k m) (line (wrap n (m + 1))) (line (wrap n (m + n - 1))) up
+          → TracedLines line n m up ring ring′ → TracedKinds parity line n m up k kinds kinds′ → Shown lines parity from to b d k n ring kinds ring′ kinds′
+      shown true ring ring′ kinds kinds′ u w w′ =
+          record { few = c .few; is-ring = up-shown ring ring′ kinds kinds′ u w w′; ring-rest = w .rest; kinds-rest = w′ .rest }
+      shown false ring ring′ kinds kinds′ u w w′ =
+          record { few = c .few; is-ring = down-shown ring ring′ kinds kinds′ u w w′; ring-rest = w .rest; kinds-rest = w′ .rest }
+
+-- What a conflict leaves, and what the ring shows
+
+module _ (lines : ℕ) (back : ℕ → Bool) (P : Constraints) (t t′ : Tables) (g : Grouped lines back P t) (b d k : ℕ)
+    (hb : BackLine lines back b) (hd : BackLine lines back d) where
+  pub torn : lines ≤ 2048 → k ≤ 1 → (b ≡ d → ⊥) → joined lines b d k t t′ Conflicts → Torn lines (t .parity) (t .from) (t .to) b d k
+  torn few small apart j =
+      record {
+        few = few;
+        first = hb .within;
+        second = hd .within;
+        apart = apart;
+        small = small;
+        odd = j .1;
+        inside = g .inside;
+        way = way-append (way-turn (g .way b hb)) (rw (← j .0) at (g .way d hd));
+      }
+
+  pub ring-shown : (n : ℕ) (ring kinds ring′ kinds′ : List ℕ) → Shown lines (t .parity) (t .from) (t .to) b d k n ring kinds ring′ kinds′
+      → Ring (Between (More P b d k)) n (at ring′) (at kinds′)
+  ring-shown n ring kinds ring′ kinds′ s =
+      ring-map (Between (Drawn lines (t .parity) (t .from) (t .to) b d k)) (Between (More P b d k)) n (at ring′) (at kinds′)
+      (λ u v z o l. cases l (λ x. inl (link u v z o x)) (λ x. inr (link v u z (λ e. o (sym e)) x))) (s .is-ring)
+    where
+      link : (u v z : ℕ) → (u ≡ v → ⊥) → Drawn lines (t .parity) (t .from) (t .to) b d k u v z → More P b d k u v z
+      link u v z o (inl (j, e)) =
+          cases (g .taken (j .place) (j .within))
+          (λ q. absurd (o (sym (j .is-from) ∙ q ∙ j .is-to)))
+          (λ p. inl (rw (e, ← j .is-from, ← j .is-to) p))
+      link u v z o (inr e) = inr e
+
+-- The ring, after a conflict
+
+module _ (lines : ℕ) (back : ℕ → Bool) (P : Constraints) (b d kind : ℕ) (hb : BackLine lines back b) (hd : BackLine lines back d)
+    (leader parity from to leader′ parity′ from′ to′ : List ℕ) (g : Grouped lines back P (tables leader parity from to))
+    (j : joined lines b d kind (tables leader parity from to) (tables leader′ parity′ from′ to′) Conflicts) where
+  pub showing : (ring kinds : List ℕ) → kind ≤ 1 → (b ≡ d → ⊥) → Room lines leader′ parity′ from′ to′ → lines ≤ length ring → lines ≤ length kinds
+      → Showing lines b d kind parity′ from′ to′ ring kinds
+  showing ring kinds small apart r x y =
+      record {
+        conflict =
+            subst (λ (t : Tables). Torn lines (t .parity) (t .from) (t .to) b d kind) (sym (j .2))
+            (torn lines back P (tables leader parity from to) (tables leader′ parity′ from′ to′) g b d kind hb hd (r .few) small apart j);
+        parities = r .parities;
+        froms = r .froms;
+        tos = r .tos;
+        ring-room = x;
+        kind-room = y;
+      }
+
+  pub ring-after : (n : ℕ) (ring kinds ring′ kinds′ : List ℕ)
+      → Shown lines (at parity′) (at from′) (at to′) b d kind n ring kinds ring′ kinds′ → Ring (Between (More P b d kind)) n (at ring′) (at kinds′)
+  ring-after n ring kinds ring′ kinds′ s =
+      ring-shown lines back P (tables leader′ parity′ from′ to′) (tables leader′ parity′ from′ to′)
+      (subst (λ (t : Tables). Grouped lines back P t) (sym (j .2)) g) b d kind hb hd n ring kinds ring′ kinds′ s
