@@ -22,6 +22,7 @@ use Rattle.fork.proofs.Choices.{aligned-agree}
 use Rattle.groups.specs.Order.{at, Agree, Before, First, Next, Last}
 use Rattle.groups.proofs.Order.{agree-sym, before-same}
 use Rattle.choice.specs.Choice.{Proper}
+use Rattle.listed.proofs.Granted.{properb, proper-yes, proper-agree, proper-of}
 
 -- Two choices
 
@@ -50,34 +51,6 @@ module _ (c d : ℕ → ℕ) where
   before-yes : (n : ℕ) → Before n c d → beforeb n c d ≡ true
   unfolding beforeb
   before-yes n l = any-yes _ n (l .place) (l .within) (both-yes (agree-yes (l .place) (l .alike)) (lt-ltb (c (l .place)) (d (l .place)) (l .less)))
-
--- Proper choices
-
-unfoldable pub properb : Tree → (ℕ → ℕ) → Bool
-properb S c = both (all (λ k. either (backb S k) (eqb (c k) none)) (S .lines)) (alignedb S c)
-
-module _ (S : Tree) where
-  pub proper-of : (c : ℕ → ℕ) → properb S c ≡ true → Proper S c
-  unfolding properb
-  proper-of c t =
-      record {
-        no-side = λ k h f. cases (either-of (all-of _ (S .lines) (both-of t .0) k h)) (λ y. true-false y f) (λ y. eqb-true (c k) none y);
-        aligned = aligned-of S c (both-of t .1);
-      }
-
-  proper-yes : (c : ℕ → ℕ) → Proper S c → properb S c ≡ true
-  unfolding properb
-  proper-yes c p =
-      both-yes
-      (all-yes _ (S .lines) (λ k h. cases (bool (backb S k)) (λ t. either-first _ _ t) (λ f. either-second _ _ (eq-eqb (c k) none (p .no-side k h f)))))
-      (aligned-yes S c (p .aligned))
-
-  proper-agree : (c d : ℕ → ℕ) → Agree (S .lines) c d → Proper S c → Proper S d
-  proper-agree c d a p =
-      record {
-        no-side = λ k h f. sym (a k h) ∙ p .no-side k h f;
-        aligned = aligned-agree S c d (λ b l. a b (l .0 .below)) (p .aligned);
-      }
 
 -- All ways to write 0 or 1 where the list says true, and 2 where it says false
 

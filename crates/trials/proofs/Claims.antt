@@ -24,7 +24,8 @@ use Rattle.clockwise.specs.Order.{order-at}
 use Rattle.meshes.specs.Meshes.{mesh-count, mesh-list, size-list}
 use Rattle.trials.specs.Trials.{Claim, back-lines-are, choices-are, next-is, none-after, not-aligned, must-agree, ring-is, mesh-count-is, sizes-are, meshes-are, clockwise-is, written, directions, Every, choice, Fitting, Onward, Choices, Draws, True}
 use Rattle.trials.proofs.Lists.{numbers, numbers-of, rows, rows-of}
-use Rattle.trials.proofs.Choosing.{properb, proper-of, everyb, firstb, first-of, nextb, next-of, lastb, last-of, none-of}
+use Rattle.listed.proofs.Granted.{properb, proper-of}
+use Rattle.trials.proofs.Choosing.{everyb, firstb, first-of, nextb, next-of, lastb, last-of, none-of}
 use Rattle.trials.proofs.Ringing.{roundb, round-of, none-legal}
 
 -- Of each member of a list

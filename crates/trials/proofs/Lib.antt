@@ -6,3 +6,4 @@ pub mod Rows
 pub mod Table
 pub mod Answers
 pub mod Rejected
+pub mod WrongRules

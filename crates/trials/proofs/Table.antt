@@ -18,10 +18,11 @@ use Rattle.groups.specs.Constraints.{apartb, oddb, orderedb, ringb}
 use Rattle.fans.specs.Fan.{side-of as line-side, leaving, rank, nested, fan}
 use Rattle.clockwise.specs.Order.{discovered, incoming, beside, clockwise}
 use Rattle.meshes.specs.Meshes.{opposite, leave as leave-by, follow-in, turned, step as next-direction, mesh-of, mesh-count, borders, mesh-size, mesh-list, size-list}
+use Rattle.listed.proofs.Granted.{properb}
 use Rattle.trials.specs.Trials.{side-of, sides, written, directions, Every, Holds}
 use Rattle.trials.specs.Table.{table}
 use Rattle.trials.proofs.Lists.{alike}
-use Rattle.trials.proofs.Choosing.{agreeb, beforeb, properb, scan, everyb, not-later, firstb, nextb, lastb}
+use Rattle.trials.proofs.Choosing.{agreeb, beforeb, scan, everyb, not-later, firstb, nextb, lastb}
 use Rattle.trials.proofs.Ringing.{constraintb, roundb}
 use Rattle.trials.proofs.Claims.{each, fittingb, onwardb, choicesb, drawsb, test}
 use Rattle.trials.proofs.Rows.{refusal, holdsb, all-hold-of}

@@ -1,4 +1,4 @@
--- The table of trials: P1 to P12, and two triangles on one line. (docs/RULES.md, "Worked examples".)
+-- The table of trials: P1 to P12, two triangles on one line, and two that catch slips. (docs/RULES.md, "Worked examples".)
 use mathlib.Core.List.{List, [], _∷_}
 use Prim.Native.Nat.{ℕ}
 use Rattle.groups.specs.Constraints.{same, different}
@@ -91,5 +91,41 @@ two-triangles-renumbered =
     trial 4 ((0, 1) ∷ (1, 2) ∷ (2, 3) ∷ (3, 0) ∷ (0, 2) ∷ [])
     (granted (back-lines-are (3 ∷ 4 ∷ []) ∷ choices-are ("LL" ∷ "RR" ∷ []) ∷ must-agree 3 4 ∷ mesh-count-is "LL" 3 ∷ mesh-count-is "RR" 3 ∷ []))
 
+-- A back line that comes in where a tree line leaves is no return of it: counted as one, it would leave this network no choice.
+abbrev pub S2 : Trial
+S2 =
+    trial 5 ((0, 2) ∷ (4, 1) ∷ (3, 1) ∷ (3, 0) ∷ (0, 4) ∷ (1, 0) ∷ (4, 3) ∷ (1, 2) ∷ (4, 2) ∷ [])
+    (granted (back-lines-are (2 ∷ 3 ∷ 4 ∷ 5 ∷ 8 ∷ []) ∷ choices-are ("LLLLR" ∷ "LRRRR" ∷ "RLLLL" ∷ "RRRRL" ∷ []) ∷ []))
+
+-- K4 with its pairs in dictionary order: lines 1 and 2 come in to vertex 0 by their discovery, and not as they nest.
+abbrev pub K4-by-pairs : List (ℕ × ℕ)
+K4-by-pairs = (0, 1) ∷ (0, 2) ∷ (0, 3) ∷ (1, 2) ∷ (1, 3) ∷ (2, 3) ∷ []
+
+abbrev pub S3 : Trial
+S3 =
+    trial 4 K4-by-pairs
+    (granted
+    (back-lines-are (1 ∷ 2 ∷ 4 ∷ [])
+    ∷ clockwise-is "LLR" ((2 ∷ 1 ∷ 0 ∷ []) ∷ (0 ∷ 3 ∷ 4 ∷ []) ∷ (3 ∷ 1 ∷ 5 ∷ []) ∷ (5 ∷ 2 ∷ 4 ∷ []) ∷ [])
+    ∷ mesh-count-is "LLR" 4
+    ∷ []))
+
 abbrev pub table : List Trial
-table = P1 ∷ P2 ∷ P3 ∷ P4 ∷ P5 ∷ P6 ∷ P7 ∷ P8 ∷ P9 ∷ P10 ∷ P11 ∷ P12 ∷ two-triangles ∷ two-triangles-renumbered ∷ []
+table =
+    P1
+    ∷ P2
+    ∷ P3
+    ∷ P4
+    ∷ P5
+    ∷ P6
+    ∷ P7
+    ∷ P8
+    ∷ P9
+    ∷ P10
+    ∷ P11
+    ∷ P12
+    ∷ two-triangles
+    ∷ two-triangles-renumbered
+    ∷ S2
+    ∷ S3
+    ∷ []
