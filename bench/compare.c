@@ -85,10 +85,11 @@ static void time_once(const struct program *program, enum work work, const struc
     *whole = between(start, before) + *alone + between(after, end);
 }
 
-/* The programs take turns, so that none has the caches to itself. */
+/* All turns of one program, then all of the next. If they took turns one by one, a program would pay for tidying the memory
+ * that another one gave back. */
 static void measure(size_t repetitions, enum work work, size_t n) {
-    for (size_t turn = 0; turn < WARMING + repetitions; turn++)
-        for (int p = 0; p < PROGRAMS; p++) {
+    for (int p = 0; p < PROGRAMS; p++)
+        for (size_t turn = 0; turn < WARMING + repetitions; turn++) {
             double whole, alone;
             time_once(programs[p], work, &networks[n], &whole, &alone);
             if (turn < WARMING)
