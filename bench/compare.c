@@ -99,6 +99,11 @@ static void measure(size_t repetitions, enum work work, size_t n) {
         }
 }
 
+/* Two digits that count, since planarity is many times quicker. */
+static void print_ratio(double ratio) {
+    printf(ratio < 0.1 ? " %5.3f |" : " %5.2f |", ratio);
+}
+
 static void print_row(enum work work, size_t n, double logarithms[2][PROGRAMS]) {
     const struct network *network = &networks[n];
     double own = settle(&alones[work][n][0]);
@@ -107,7 +112,8 @@ static void print_row(enum work work, size_t n, double logarithms[2][PROGRAMS]) 
     for (int alone = 0; alone < 2; alone++)
         for (int p = 1; p < PROGRAMS; p++) {
             double time = settle(alone ? &alones[work][n][p] : &wholes[work][n][p]);
-            printf(" %7.1f | %5.2f |", time, time / own);
+            printf(" %7.1f |", time);
+            print_ratio(time / own);
             logarithms[alone][p] += log(time / own);
         }
     printf("\n");
@@ -126,8 +132,10 @@ static void print_table(enum work work) {
         }
     printf("| %-28s | | | | |", "geometric mean");
     for (int alone = 0; alone < 2; alone++)
-        for (int p = 1; p < PROGRAMS; p++)
-            printf(" | %5.2f |", exp(logarithms[alone][p] / (double)rows));
+        for (int p = 1; p < PROGRAMS; p++) {
+            printf(" |");
+            print_ratio(exp(logarithms[alone][p] / (double)rows));
+        }
     printf("\n");
 }
 

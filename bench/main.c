@@ -11,33 +11,37 @@
 
 enum { ROUNDS = 5 };
 
-/* Whether the next argument is a number within bounds. */
-static int takes_number(char ***argument, unsigned long least, unsigned long most, unsigned long *number) {
+static int is_number(const char *word, unsigned long least, unsigned long most, unsigned long *number) {
     char *end;
-    if (*++*argument == NULL)
+    if (word == NULL || *word == '\0')
         return 0;
-    *number = strtoul(**argument, &end, 10);
-    return end != **argument && *end == '\0' && least <= *number && *number <= most;
+    *number = strtoul(word, &end, 10);
+    return *end == '\0' && least <= *number && *number <= most;
 }
 
-static int takes_plan(char **argument, struct plan *plan) {
+/* Whether the arguments, up to a null, make a plan. */
+static int make_plan(char **arguments, struct plan *plan) {
     unsigned long number;
-    for (; *argument != NULL; argument++) {
-        if (strcmp(*argument, "--quick") == 0)
+    while (*arguments != NULL) {
+        const char *word = *arguments++;
+        if (strcmp(word, "--quick") == 0) {
             plan->repetitions = 5;
-        else if (strcmp(*argument, "--repetitions") == 0 && takes_number(&argument, ROUNDS, MOST_SAMPLES, &number))
+        } else if (strcmp(word, "--repetitions") == 0 && is_number(*arguments, ROUNDS, MOST_SAMPLES, &number)) {
             plan->repetitions = number / ROUNDS;
-        else if (strcmp(*argument, "--seed") == 0 && takes_number(&argument, 0, 1000000, &number))
+            arguments++;
+        } else if (strcmp(word, "--seed") == 0 && is_number(*arguments, 0, 1000000, &number)) {
             plan->seed = number;
-        else
+            arguments++;
+        } else {
             return 0;
+        }
     }
     return 1;
 }
 
 int main(int argc, char **argv) {
     struct plan plan = {.rounds = ROUNDS, .repetitions = 31, .seed = 1};
-    if (argc < 1 || !takes_plan(argv + 1, &plan)) {
+    if (argc < 1 || !make_plan(argv + 1, &plan)) {
         fprintf(stderr, "bench: use --quick, --repetitions N (%d to %d) or --seed N (up to 1000000)\n", ROUNDS, MOST_SAMPLES);
         return 2;
     }
