@@ -41,6 +41,7 @@ static const struct {
     {STRETCHED_FIVE, 512},
     {STRETCHED_THREES, 512},
     {TWISTED_LADDER, 512},
+    {THREE_HUBS, 512},
     {GRID_AND_LINE, 512},
     {CUT_AND_LINE, 512},
     {RANDOM_SPARSE, 512},

@@ -52,16 +52,24 @@ static void wheel(struct network *network) {
         add(network, hub, v);
 }
 
-/* A path and two hubs, joined to all of it and to each other. All meshes are triangles, and the search goes up the whole
- * path first: two thirds of the lines are back lines with long cycles, which no flat network has more of. */
-static void two_hubs(struct network *network) {
-    size_t low_hub = network->vertices - 2;
-    for (size_t v = 1; v < low_hub; v++)
+/* A path, and hubs joined to all of it and to each other. The search goes up the whole path first, and the hubs' lines are
+ * then back lines over all heights: about the longest cycles that so many lines can have. With two hubs the network is
+ * flat and all meshes are triangles; with three it is not flat. */
+static void path_and_hubs(struct network *network, size_t hubs) {
+    size_t path = network->vertices - hubs;
+    for (size_t v = 1; v < path; v++)
         add(network, v - 1, v);
-    for (size_t hub = low_hub; hub < network->vertices; hub++)
-        for (size_t v = 0; v < low_hub; v++)
+    for (size_t hub = path; hub < network->vertices; hub++)
+        for (size_t v = 0; v < hub; v++)
             add(network, hub, v);
-    add(network, low_hub, low_hub + 1);
+}
+
+static void two_hubs(struct network *network) {
+    path_and_hubs(network, 2);
+}
+
+static void three_hubs(struct network *network) {
+    path_and_hubs(network, 3);
 }
 
 static void two_parts(struct network *network, size_t first_part, size_t second_part) {
@@ -185,6 +193,7 @@ static const struct {
     [STRETCHED_FIVE] = {"K5 subdivided", stretched_five, 1},
     [STRETCHED_THREES] = {"K3,3 subdivided", stretched_threes, 1},
     [TWISTED_LADDER] = {"twisted ladder", twisted_ladder, 0},
+    [THREE_HUBS] = {"path and three hubs", three_hubs, 0},
     [GRID_AND_LINE] = {"grid and a line", grid_and_line, 0},
     [CUT_AND_LINE] = {"cut triangulation and a line", cut_and_line, 1},
     [RANDOM_SPARSE] = {"random, sparse", random_sparse, 1},
