@@ -86,12 +86,15 @@ static void time_once(const struct program *program, enum work work, const struc
     *whole = between(start, before) + *alone + between(after, end);
 }
 
-/* All turns of one program, then all of the next. If they took turns one by one, a program would pay for tidying the memory
- * that another one gave back. */
-static void measure(size_t repetitions, enum work work, size_t n) {
+/* All repetitions of one program, then all of the next. If they took turns one by one, planarity would pay some hundred
+ * microseconds for the memory that Boost gave back: this was tried with and without Boost. The price is that caches and
+ * branches are at their best, which helps planarity most; a cold run shows it without. */
+static void measure(const struct plan *plan, enum work work, size_t n) {
     for (int p = 0; p < PROGRAMS; p++)
-        for (size_t turn = 0; turn < WARMING + repetitions; turn++) {
+        for (size_t turn = 0; turn < WARMING + plan->repetitions; turn++) {
             double whole, alone;
+            if (plan->cold)
+                spoil();
             time_once(programs[p], work, &networks[n], &whole, &alone);
             if (turn < WARMING)
                 continue;
@@ -153,7 +156,7 @@ int compare(const struct plan *plan) {
         for (size_t n = 0; n < NETWORKS; n++)
             for (enum work work = TEST; work < WORKS; work++)
                 if (has_use(work, n))
-                    measure(plan->repetitions, work, n);
+                    measure(plan, work, n);
     for (enum work work = TEST; work < WORKS; work++)
         print_table(work);
     fflush(stdout);

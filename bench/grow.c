@@ -55,14 +55,16 @@ static unsigned make_call(enum call call, const struct network *network) {
 }
 
 /* Times all calls on a network, in turns. Where it has no choice, next and draw have nothing to work on. */
-static int measure(size_t repetitions, const struct network *network, struct samples samples[CALLS]) {
+static int measure(const struct plan *plan, const struct network *network, struct samples samples[CALLS]) {
     int flat = make_call(FIRST, network) == CORNETARIEL_DONE;
     make_call(WRITE, network); /* what read takes */
-    for (size_t turn = 0; turn < WARMING + repetitions; turn++)
+    for (size_t turn = 0; turn < WARMING + plan->repetitions; turn++)
         for (enum call call = ORIENT; call < CALLS; call++) {
             if (!flat && (call == NEXT || call == DRAW))
                 continue;
             memcpy(choice, first_choice, sizeof choice); /* next changes what it is lent */
+            if (plan->cold)
+                spoil();
             uint64_t before = clock_now();
             unsigned number = make_call(call, network);
             uint64_t after = clock_now();
@@ -100,7 +102,7 @@ int grow(const struct plan *plan) {
     for (size_t round = 0; round < plan->rounds; round++)
         for (size_t shape = 0; shape < GROWN; shape++)
             for (size_t size = 0; size < SIZES; size++)
-                if (measure(plan->repetitions, &networks[shape][size], times[shape][size]))
+                if (measure(plan, &networks[shape][size], times[shape][size]))
                     return 1;
     printf("\nGrowth: each call on 64 to 512 vertices, and how many times as long it takes with each doubling.\n\n");
     printf("| call | 64 | 128 | 256 | 512 | to 128 | to 256 | to 512 |\n|:--|--:|--:|--:|--:|--:|--:|--:|\n");

@@ -26,6 +26,8 @@ static int make_plan(char **arguments, struct plan *plan) {
         const char *word = *arguments++;
         if (strcmp(word, "--quick") == 0) {
             plan->repetitions = 5;
+        } else if (strcmp(word, "--cold") == 0) {
+            plan->cold = 1;
         } else if (strcmp(word, "--repetitions") == 0 && is_number(*arguments, ROUNDS, MOST_SAMPLES, &number)) {
             plan->repetitions = number / ROUNDS;
             arguments++;
@@ -42,15 +44,15 @@ static int make_plan(char **arguments, struct plan *plan) {
 int main(int argc, char **argv) {
     struct plan plan = {.rounds = ROUNDS, .repetitions = 31, .seed = 1};
     if (argc < 1 || !make_plan(argv + 1, &plan)) {
-        fprintf(stderr, "bench: use --quick, --repetitions N (%d to %d) or --seed N (up to 1000000)\n", ROUNDS, MOST_SAMPLES);
+        fprintf(stderr, "bench: use --quick, --cold, --repetitions N (%d to %d) or --seed N (up to 1000000)\n", ROUNDS, MOST_SAMPLES);
         return 2;
     }
     /* The peers take memory and give it back with every graph. Here it stays with the program: to hand it to the system and
      * get it again takes longer than some of the works, and how often that happens would be chance. */
     mallopt(M_MMAP_MAX, 0);
     mallopt(M_TRIM_THRESHOLD, 1 << 30);
-    printf("Microseconds, the median of %zu repetitions; a ratio is a peer's time divided by ours. Seed %lu.\n",
-           plan.rounds * plan.repetitions, (unsigned long)plan.seed);
+    printf("Microseconds, the median of %zu repetitions%s; a ratio is a peer's time divided by ours. Seed %lu.\n",
+           plan.rounds * plan.repetitions, plan.cold ? ", cold" : "", (unsigned long)plan.seed);
     fflush(stdout);
     if (compare(&plan) || grow(&plan))
         return 1;

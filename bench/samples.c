@@ -38,6 +38,23 @@ double between(uint64_t before, uint64_t after) {
     return time > 0 ? time : 0;
 }
 
+/* Reads and writes at random places of a megabyte, and branches at random. */
+void spoil(void) {
+    static unsigned char places[1 << 20];
+    static volatile uint32_t sum;
+    uint32_t number = 1, own = 0;
+    for (int i = 0; i < 60000; i++) {
+        number = number * 1664525 + 1013904223;
+        if (number >> 31)
+            own += places[number >> 8 & 0xfffff];
+        else
+            places[number >> 8 & 0xfffff] = (unsigned char)number;
+        if (number >> 30 & 1)
+            own ^= number;
+    }
+    sum = own;
+}
+
 void put_sample(struct samples *samples, double nanoseconds) {
     if (samples->count < MOST_SAMPLES)
         samples->nanoseconds[samples->count++] = nanoseconds;

@@ -18,6 +18,10 @@ uint64_t clock_now(void);
 /* The nanoseconds between two readings of the clock, less what a reading itself takes. */
 double between(uint64_t before, uint64_t after);
 
+/* Leaves the caches and the processor's guesses about branches as other work would: without this, repetitions on one
+ * network find both at their best. Takes and gives back no memory. */
+void spoil(void);
+
 void put_sample(struct samples *samples, double nanoseconds);
 
 /* The median, in microseconds. Samples that are settled take no more. */

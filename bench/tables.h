@@ -8,6 +8,8 @@
 struct plan {
     /* Each cell is timed so often in each round, after some turns that only warm up. */
     size_t rounds, repetitions;
+    /* Whether caches and branches are spoiled before each repetition. */
+    int cold;
     /* Where random numbers begin. */
     uint64_t seed;
 };
