@@ -19,13 +19,13 @@ slice-aggregate-begun : tie.Need-slice-aggregate-begun Inv-loop μ-loop
 slice-aggregate-begun c = search needs
 
 begun-requires : tie.Need-begun-requires Inv-loop μ-loop
-begun-requires c κs = laying-begins (c .before .before .before .before .before .before .before .before .before .pre) (c .before .before .loop .inv) (c .before .loop-test .taken)
+begun-requires c κs = search laying-begins
 
 slice-aggregate-spread : tie.Need-slice-aggregate-spread Inv-loop μ-loop
 slice-aggregate-spread c = search needs
 
 spread-requires : tie.Need-spread-requires Inv-loop μ-loop
-spread-requires c κs = laying-spreads (c .before .before .before .before .before .before .before .before .before .before .before .before .pre) (c .before .before .before .before .before .loop .inv) (c .before .before .before .before .loop-test .taken) (c .before .before .begun .ensures)
+spread-requires c κs = search laying-spreads
 
 add-v : tie.Need-add-v Inv-loop μ-loop
 add-v c = search needs
