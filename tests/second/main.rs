@@ -4,7 +4,8 @@
 //! What the rules say: `rules` (networks, search, returns), `sides` (choices, over `pairs`),
 //! `drawing`, `text`, and `calls`, which has the numbers and counts. What is tried: `networks`,
 //! `malformed` and `requests`, put together in `families`. How: `run`, `driver` (the pipe),
-//! `compare`. `self_test` and `mirror` try this program itself.
+//! `compare`; `pages` does the same for the listing program. `self_test` and `mirror` try this program
+//! itself.
 
 mod calls;
 mod compare;
@@ -14,6 +15,7 @@ mod families;
 mod malformed;
 mod mirror;
 mod networks;
+mod pages;
 mod pairs;
 mod random;
 mod requests;
@@ -28,6 +30,7 @@ use run::Plan;
 use std::process::exit;
 
 const USAGE: &str = "usage: second [OPTION...] -- DRIVER [WORD...]
+       second --pages [OPTION...] -- PROGRAM [WORD...]    compare the listing program
        second --self-test     try the rules as written here on known answers
        second --answer        be a driver that answers by the rules
 options: --calls NAMES        the calls to compare, with commas between (all six)
@@ -41,14 +44,14 @@ fn main() {
     match words.first().map(String::as_str) {
         Some("--self-test") => self_test::run(),
         Some("--answer") => mirror::answer_all(),
-        _ => match plan(&words) {
-            Some(plan) => exit(run::run(&plan)),
-            None => {
-                eprintln!("{USAGE}");
-                exit(2)
-            }
-        },
+        Some("--pages") => exit(plan(&words[1..]).map_or_else(misused, |plan| pages::run(&plan))),
+        _ => exit(plan(&words).map_or_else(misused, |plan| run::run(&plan))),
     }
+}
+
+fn misused() -> i32 {
+    eprintln!("{USAGE}");
+    2
 }
 
 fn plan(words: &[String]) -> Option<Plan> {

@@ -95,7 +95,8 @@ fn make_all(plan: &Plan, sender: &SyncSender<Vec<Case>>) {
     let _ = sender.send(batch);
 }
 
-fn numbers(plan: &Plan, family: &Family) -> std::iter::StepBy<std::ops::Range<usize>> {
+/// The numbers of a family's networks that a run goes through.
+pub fn numbers(plan: &Plan, family: &Family) -> std::iter::StepBy<std::ops::Range<usize>> {
     let all = match &plan.only {
         Some((name, number)) if name == family.name => *number..number + 1,
         Some(_) => 0..0,

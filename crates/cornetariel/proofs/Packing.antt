@@ -36,7 +36,7 @@ small-done a b h l = record { number = omega arith; count = h; second = l }
 small-is : {a b : Answer} → a ≡ b → Small b → Small a
 small-is e s = subst (λ (x : Answer). Small x) (sym e) s
 
-backs-few : (net : Network) → Fit net → back-lines net ≤ 2048
+pub backs-few : (net : Network) → Fit net → back-lines net ≤ 2048
 unfolding back-lines
 backs-few net fit =
     omega (arith, many-le 1 (take (net .lines) (finished net .kind)), length-take (net .lines) (finished net .kind), fit .few-lines)

@@ -1,8 +1,8 @@
 -- What a call says of a network that no check refuses is what it grants; and a choice is proper where a test says so.
 use mathlib.Core.Bool.{Bool, true, false}
 use mathlib.Core.List.{List}
-use mathlib.Core.Logic.{_⊎_, inl, inr}
-use mathlib.Core.Path.{_≡_, refl, sym, ap, _∙_}
+use mathlib.Core.Logic.{inl, inr}
+use mathlib.Core.Path.{_≡_, refl, sym, _∙_}
 use native.Mathlib.Omega.{arith}
 use Prim.Native.Nat.{ℕ, _/_, _≤_, _<_}
 use lib.Dec.{eqb}
@@ -17,9 +17,6 @@ use Rattle.network.specs.Inside.{Fit}
 use Rattle.network.proofs.Sifting.{fit-when}
 use Rattle.tree.specs.Tree.{Tree}
 use Rattle.tree.specs.Returns.{backb}
-use Rattle.search.specs.Machine.{finished}
-use Rattle.search.specs.Inside.{everyone}
-use Rattle.search.proofs.Reached.{connected-of}
 use Rattle.side.specs.Sides.{none}
 use Rattle.fork.specs.Fork.{alignedb}
 use Rattle.fork.proofs.Rule.{aligned-yes, aligned-of}
@@ -32,11 +29,6 @@ use Rattle.listed.specs.Listing.{Accepted}
 -- Networks that no check refuses
 
 module _ (n : ℕ) (ends : List ℕ) where
-  pub accepted-by : oversize n (length ends) ≡ false → odd (length ends) ≡ false → astray n ends ≡ false → mispaired ends ≡ false
-      → everyone n (finished (network n ends) .found) ≡ true → Accepted n ends
-  accepted-by two three four five six =
-      record { sized = two; paired-ends = three; inside = four; single = five; connected = connected-of (network n ends) (fit-when n ends two three four five) six }
-
   module _ (a : Accepted n ends) where
     pub fit : Fit (network n ends)
     fit = fit-when n ends (a .sized) (a .paired-ends) (a .inside) (a .single)
@@ -106,9 +98,6 @@ module _ (S : Tree) (c : ℕ → ℕ) where
       cases (bool (backb S k)) (λ t. either-first _ _ t) (λ f. either-second _ _ (eq-eqb (c k) none (p .no-side k h f)))))
       (aligned-yes S c (p .aligned))
 
-  pub proper-or : Proper S c ⊎ (Proper S c → ⊥)
-  proper-or = cases (bool (properb S c)) (λ t. inl (proper-of t)) (λ f. inr (λ p. true-false (proper-yes p) f))
-
 -- what lies past the lines does not count
 pub proper-agree : (S : Tree) (c d : ℕ → ℕ) → Agree (S .lines) c d → Proper S c → Proper S d
 proper-agree S c d a p =
@@ -116,10 +105,3 @@ proper-agree S c d a p =
       no-side = λ k h f. sym (a k h) ∙ p .no-side k h f;
       aligned = aligned-agree S c d (λ b l. a b (l .0 .below)) (p .aligned);
     }
-
--- by a tree that was computed
-pub proper-by : {S T : Tree} → S ≡ T → (c : ℕ → ℕ) → properb T c ≡ true → Proper S c
-proper-by {S} e c t = proper-of S c (ap (λ (U : Tree). properb U c) e ∙ t)
-
-pub improper-by : {S T : Tree} → S ≡ T → (c : ℕ → ℕ) → properb T c ≡ false → Proper S c → ⊥
-improper-by {S} e c f p = true-false (proper-yes S c p) (ap (λ (U : Tree). properb U c) e ∙ f)

@@ -4,3 +4,4 @@ pub mod Outcomes
 pub mod Enumerating
 pub mod Listed
 pub mod OneChoice
+pub mod Moves

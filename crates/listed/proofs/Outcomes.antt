@@ -24,20 +24,6 @@ module _ (n : ℕ) (ends : List ℕ) (a : Accepted n ends) where
     pub first-says : FirstChoice n ends choice lines kinds r c l k → First
     first-says = granted n ends a (cramped-first ends choice lines kinds) (room-first n ends choice lines kinds bytes ring ring′) (Untouched choice lines kinds r c l k) First
 
-    pub first-drawable : Drawable (tree-in (network n ends)) → FirstChoice n ends choice lines kinds r c l k → Chosen (network n ends) choice lines kinds r c l k
-    first-drawable d f = go (first-says f)
-      where
-        go : First → Chosen (network n ends) choice lines kinds r c l k
-        go (inl (_, x)) = x
-        go (inr (e, x)) = absurd (e d)
-
-    pub first-undrawable : (Drawable (tree-in (network n ends)) → ⊥) → FirstChoice n ends choice lines kinds r c l k → Ringed (network n ends) choice lines kinds r c l k
-    first-undrawable e f = go (first-says f)
-      where
-        go : First → Ringed (network n ends) choice lines kinds r c l k
-        go (inl (d, x)) = absurd (e d)
-        go (inr (_, x)) = x
-
     pub first-by : Drawable (tree-in (network n ends)) → Chosen (network n ends) choice lines kinds r c l k → FirstChoice n ends choice lines kinds r c l k
     first-by d x = grant n ends a (cramped-first ends choice lines kinds) (room-first n ends choice lines kinds bytes ring ring′) (Untouched choice lines kinds r c l k) First (inl (d, x))
 
@@ -52,13 +38,6 @@ module _ (n : ℕ) (ends : List ℕ) (a : Accepted n ends) where
 
     pub next-says : NextChoice n ends choice r c → Next
     next-says = granted n ends a (cramped-next ends choice) (room-next n ends choice bytes) (Unmoved choice r c) Next
-
-    pub next-improper : (Proper (tree-in (network n ends)) (at choice) → ⊥) → NextChoice n ends choice r c → Unmoved choice r c 8
-    next-improper e f = go (next-says f)
-      where
-        go : Next → Unmoved choice r c 8
-        go (inl (p, x)) = absurd (e p)
-        go (inr (_, x)) = x
 
     module _ (p : Proper (tree-in (network n ends)) (at choice)) where
       pub next-outdone : Outdone (tree-in (network n ends)) (at choice) → NextChoice n ends choice r c → Stepped (network n ends) choice r c
@@ -79,6 +58,3 @@ module _ (n : ℕ) (ends : List ℕ) (a : Accepted n ends) where
 
       pub next-by : Outdone (tree-in (network n ends)) (at choice) → Stepped (network n ends) choice r c → NextChoice n ends choice r c
       next-by d x = grant n ends a (cramped-next ends choice) (room-next n ends choice bytes) (Unmoved choice r c) Next (inl (p, inl (d, x)))
-
-      pub next-none : (Outdone (tree-in (network n ends)) (at choice) → ⊥) → Unmoved choice r c 9 → NextChoice n ends choice r c
-      next-none e x = grant n ends a (cramped-next ends choice) (room-next n ends choice bytes) (Unmoved choice r c) Next (inl (p, inr (e, x)))

@@ -45,7 +45,8 @@ module _ (n : ℕ) (ends choice : List ℕ) (r r′ : Answer) (c c′ : List ℕ
 
 -- First choice
 
--- Two results with 7: the choice is as it was in both, and each has a ring of fork constraints.
+-- Two results with 7: the choice is as it was in both, each has a ring of fork constraints, and nothing but the ring is open: where the rings are the
+-- same, all is.
 pub record BothRinged (net : Network) (choice : List ℕ) (r r′ : Answer) (c c′ l l′ k k′ : List ℕ) : Type 0 where
   pub number : r .number ≡ 7
   pub number′ : r′ .number ≡ 7
@@ -53,6 +54,7 @@ pub record BothRinged (net : Network) (choice : List ℕ) (r r′ : Answer) (c c
   pub same-choice′ : c′ ≡ choice
   pub ring : Ring (Constraint (tree-in net)) (r .second) (at l) (at k)
   pub ring′ : Ring (Constraint (tree-in net)) (r′ .second) (at l′) (at k′)
+  pub rest : r .second ≡ r′ .second → Agree (r .second) (at l) (at l′) → Agree (r .second) (at k) (at k′) → (r ≡ r′) × (l ≡ l′) × (k ≡ k′)
 
 -- Two results are equal in everything, or both say 7 and show a ring.
 abbrev pub Alike : Network → List ℕ → Answer → Answer → List ℕ → List ℕ → List ℕ → List ℕ → List ℕ → List ℕ → Type 0
@@ -82,6 +84,14 @@ module _ (n : ℕ) (ends choice lines kinds : List ℕ) (r r′ : Answer) (c c�
         same-choice′ = b .same-choice;
         ring = rw (ap (λ (x : Answer). x .second) (a .answers)) (a .ring);
         ring′ = rw (ap (λ (x : Answer). x .second) (b .answers)) (b .ring);
+        rest = λ e f g.
+            let x = ap (λ (y : Answer). y .second) (a .answers) in
+            let y = ap (λ (y : Answer). y .second) (b .answers) in
+            let same : a .size ≡ b .size = sym x ∙ e ∙ y in (
+              a .answers ∙ ap (λ (z : ℕ). record { number = 7; count = 0; second = z }) same ∙ sym (b .answers),
+              kept-same (a .size) lines l l′ (a .lines-rest) (rw same (b .lines-rest)) (rw x at f),
+              kept-same (a .size) kinds k k′ (a .kinds-rest) (rw same (b .kinds-rest)) (rw x at g),
+            );
       })
 
   pub first-choice-once : FirstChoice n ends choice lines kinds r c l k → FirstChoice n ends choice lines kinds r′ c′ l′ k′ → Alike (network n ends) choice r r′ c c′ l l′ k k′

@@ -7,9 +7,11 @@ use native.Mathlib.Omega.{arith}
 use lib.ListN.{getD, set, length, take, drop, length-append, length-set, length-drop, take-append-drop}
 use lib.Seq.{sets, sets-eq, length-sets, length-take-le, take-at, take-all, take-suc, drop-append-add, drop-drop}
 use Rattle.laws.specs.Lists.{filled}
-use Rattle.text.specs.Text.{digits, feed, frame, frames, text-of, room, word, numbers, ends-in}
-use Rattle.text.specs.Inside.{Word, Number, Parsable, Roomy, Writable, after-first}
-use Rattle.text.proofs.DigitsBack.{length-digits}
+use Rattle.digits.specs.Digits.{digits, word}
+use Rattle.text.specs.Text.{feed, frame, frames, text-of, room, numbers, ends-in}
+use Rattle.digits.specs.Inside.{Word, Number}
+use Rattle.text.specs.Inside.{Parsable, Roomy, Writable, after-first}
+use Rattle.digits.proofs.Back.{length-digits}
 use Rattle.text.proofs.TextBack.{length-text, length-ends-in}
 use Rattle.text.proofs.Places.{form-word}
 use Rattle.text.proofs.FramesBack.{length-frame, frames-two, length-frames, length-numbers}

@@ -10,8 +10,9 @@ use lib.ListN.{getD, length, take, drop, length-append, length-drop, take-append
 use lib.Seq.{length-take-le, take-at, drop-at, drop-cons, drop-drop, getD-take, getD-drop, getD-append-add, getD-at}
 use borrow.Author.Tests.{eq-eqb, ne-eqb, eqb-true}
 use Rattle.laws.proofs.Cases.{cases, lt-or}
-use Rattle.text.specs.Text.{is-digit, digits, feed, frame, frames, word, numbers, right}
-use Rattle.text.proofs.DigitsBack.{length-digits, digits-are, number-digits, digits-number}
+use Rattle.digits.specs.Digits.{is-digit, digits, word}
+use Rattle.text.specs.Text.{feed, frame, frames, numbers, right}
+use Rattle.digits.proofs.Back.{length-digits, digits-are, number-digits, digits-number}
 
 -- What a place should hold
 

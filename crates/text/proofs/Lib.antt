@@ -1,10 +1,8 @@
-pub mod DigitsBack
 pub mod FramesBack
 pub mod TextBack
 pub mod Accepted
 pub mod Calls
 pub mod Trials
-pub mod Words
 pub mod Places
 pub mod Filling
 pub mod Reading

@@ -11,7 +11,8 @@ use Rattle.laws.specs.Tests.{all}
 use Rattle.laws.proofs.Cases.{cases, bool, true-false, lt-or}
 use Rattle.laws.proofs.Tests.{all-of, all-yes}
 use Rattle.text.specs.Text.{feed, room, lines-in, right, has-form}
-use Rattle.text.specs.Inside.{is-word, is-frame, Word, Number, Opened, Form}
+use Rattle.digits.specs.Inside.{is-word, Word, Number}
+use Rattle.text.specs.Inside.{is-frame, Opened, Form}
 use Rattle.text.proofs.FramesBack.{right-digit, right-feed}
 use Rattle.text.proofs.TextBack.{form-of, form-yes, form-no-length}
 

@@ -21,7 +21,8 @@ use Rattle.search.specs.Orient.{Explored, unsearched, searched}
 use Rattle.search.specs.declared.Search.{Search}
 use Rattle.text.specs.Text.{ends-in, has-form}
 use Rattle.text.specs.Calls.{Read}
-use Rattle.text.specs.Inside.{Word, Number, Form, Parsable}
+use Rattle.digits.specs.Inside.{Word, Number}
+use Rattle.text.specs.Inside.{Form, Parsable}
 use Rattle.text.proofs.TextBack.{form-of, length-ends-in}
 use Rattle.text.proofs.Places.{form-word}
 use Rattle.text.proofs.Accepted.{take-filled, not-odd, formed-map, checked-formed, Kept}

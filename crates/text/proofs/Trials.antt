@@ -10,7 +10,8 @@ use Rattle.laws.proofs.Cases.{true-false}
 use Rattle.network.specs.Network.{Path, here, network, Connected}
 use Rattle.network.specs.Numbers.{refused, done, oversize, astray, mispaired}
 use Rattle.network.specs.declared.Answer.{Answer}
-use Rattle.text.specs.Text.{digit, is-digit, value, digits, number-on, frame, frames, text-of, word, numbers, vertices-in, lines-in, ends-in, right, has-form}
+use Rattle.digits.specs.Digits.{digit, is-digit, value, digits, number-on, word}
+use Rattle.text.specs.Text.{frame, frames, text-of, numbers, vertices-in, lines-in, ends-in, right, has-form}
 use Rattle.text.specs.Calls.{Read}
 use Rattle.text.proofs.Accepted.{Sound, read-formless, read-oversize, read-accepts}
 

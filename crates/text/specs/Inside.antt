@@ -3,27 +3,13 @@ use mathlib.Core.Bool.{Bool, true}
 use mathlib.Core.List.{List, _++_}
 use mathlib.Core.Path.{_≡_}
 use Prim.Native.Nat.{ℕ, _+_, _*_, _/_, _≤_, _<_}
-use lib.ListN.{getD, length, take, drop}
+use lib.ListN.{length, take, drop}
 use Rattle.laws.specs.Tests.{all}
-use Rattle.text.specs.Text.{is-digit, frames, room, word, lines-in, right}
-
--- The next four bytes from a place on are digits.
-unfoldable pub is-word : List ℕ → ℕ → Bool
-is-word text at = all (λ j. is-digit (getD text (at + j) 0)) 4
+use Rattle.text.specs.Text.{frames, room, lines-in, right}
 
 -- The bytes of frame k are right.
 unfoldable pub is-frame : List ℕ → ℕ → Bool
 is-frame text k = all (λ j. right text (9 * k + j)) 9
-
--- Four digits stand at a place.
-pub record Word (text : List ℕ) (at : ℕ) : Type 0 where
-  pub within : at + 4 ≤ length text
-  pub digits : is-word text at ≡ true
-
--- The number that they say.
-pub record Number (text : List ℕ) (at x : ℕ) : Type 0 where
-  pub said : x ≡ word (drop at text)
-  pub small : x < 65536
 
 -- A text whose length and first frame are right, and that has so many lines.
 pub record Opened (text : List ℕ) (lines : ℕ) : Type 0 where

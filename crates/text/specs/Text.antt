@@ -2,33 +2,10 @@
 use mathlib.Core.Bool.{Bool, cond}
 use mathlib.Core.List.{List, [], _∷_, _++_}
 use Prim.Native.Nat.{ℕ, zero, suc, _+_, _*_, _/_, _%_}
-use lib.Dec.{eqb, ltb}
-use lib.ListN.{getD, length, take, drop}
-use Rattle.laws.specs.Tests.{both, all, any, least}
-
--- The byte of a digit: 0 to 9, then a to f, small.
-unfoldable pub digit : ℕ → ℕ
-digit d = cond (ltb d 10) (48 + d) (87 + d)
-
--- A byte is one of the sixteen digits, and which one it is.
-unfoldable pub is-digit : ℕ → Bool
-is-digit b = any (λ d. eqb (digit d) b) 16
-
-unfoldable pub value : ℕ → ℕ
-value b = least (λ d. eqb (digit d) b) 16
-
--- A number in so many digits, the highest first.
-unfoldable pub digits : ℕ → ℕ → List ℕ
-digits zero x = []
-digits (suc n) x = digits n (x / 16) ++ (digit (x % 16) ∷ [])
-
--- The number that digits say: each counts sixteen times what stands before it, and itself.
-unfoldable pub number-on : ℕ → List ℕ → ℕ
-number-on a [] = a
-number-on a (b ∷ l) = number-on (16 * a + value b) l
-
-abbrev pub number : List ℕ → ℕ
-number l = number-on 0 l
+use lib.Dec.{eqb}
+use lib.ListN.{getD, length, drop}
+use Rattle.laws.specs.Tests.{both, all}
+use Rattle.digits.specs.Digits.{is-digit, digits, word}
 
 -- The byte that ends each line of text.
 abbrev pub feed : ℕ
@@ -51,10 +28,6 @@ text-of n ends = frames (n ∷ length ends / 2 ∷ ends)
 -- Its bytes.
 abbrev pub room : ℕ → ℕ
 room lines = 9 * (lines + 1)
-
--- The number in the next four digits of a text.
-unfoldable pub word : List ℕ → ℕ
-word t = number (take 4 t)
 
 -- The two numbers in each of so many frames.
 unfoldable pub numbers : ℕ → List ℕ → List ℕ

@@ -3,9 +3,9 @@ ghost use mathlib.Core.Path.{_≡_};
 ghost use Prim.Native.Nat.{_+_, _*_, _≤_, _<_};
 ghost use lib.ListN.{length};
 ghost use Rattle.laws.specs.Tests.{all};
+ghost use Rattle.digits.specs.Inside.{Word, Number};
 ghost use Rattle.text.specs.Text.{right, «has-form»};
 ghost use Rattle.text.specs.Inside.{«is-frame», Opened};
-use crate::digits;
 
 // Whether a text has the form. The first frame comes first, since it says how long the text should be.
 pub(crate) fn has_form(text: &[u8]) -> bool
@@ -17,7 +17,7 @@ pub(crate) fn has_form(text: &[u8]) -> bool
     if !is_frame(text, 0) {
         return false;
     }
-    let lines = digits::number_at(text, 4);
+    let lines = number_at(text, 4);
     if text.len() != 9 * (lines + 1) {
         return false;
     }
@@ -52,4 +52,12 @@ fn is_frame(text: &[u8], k: usize) -> bool
         return false;
     }
     text[at + 8] == 10
+}
+
+// The number in the four digits at a place, as an index.
+pub(crate) fn number_at(text: &[u8], at: usize) -> usize
+    requires { ⌜ Word (now text) at ⌝ }
+    ensures { λ r. ⌜ Number (now (text .entry)) at r ⌝ }
+{
+    network::wide(digits::word_at(text, at))
 }

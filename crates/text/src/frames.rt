@@ -6,7 +6,6 @@ ghost use lib.Seq.{sets};
 ghost use Rattle.laws.specs.Lists.{filled};
 ghost use Rattle.text.specs.Text.{frame, «text-of», room, «ends-in»};
 ghost use Rattle.text.specs.Inside.{Parsable, Roomy, Writable, «after-first»};
-use crate::digits;
 
 // Takes the two ends of each line from a text that has the form.
 pub(crate) fn take_ends(text: &[u8], lines: usize, ends: &mut [u16])

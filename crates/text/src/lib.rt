@@ -1,7 +1,6 @@
 // A network as text: read and write.
 //
-// Their contracts cite specs/Calls.antt, whose words stand on the digits, frames and form of specs/Text.antt.
-mod digits;
+// Their contracts cite specs/Calls.antt, whose words stand on the frames and the form of specs/Text.antt.
 mod form;
 mod frames;
 
@@ -15,8 +14,8 @@ pub fn read(text: &[u8], ends: &mut [u16]) -> Answer
     if !form::has_form(text) {
         return Answer::refused(1);
     }
-    let vertices = digits::number_at(text, 0);
-    let lines = digits::number_at(text, 4);
+    let vertices = form::number_at(text, 0);
+    let lines = form::number_at(text, 4);
     let count = 2 * lines;
     if network::is_oversize(vertices, count) {
         return Answer::refused(2);

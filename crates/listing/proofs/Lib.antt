@@ -1,0 +1,5 @@
+pub mod Putting
+pub mod Stepping
+pub mod Showing
+pub mod Printing
+pub mod Once

@@ -1,0 +1,3 @@
+-- The page that the listing program prints.
+pub mod Page
+pub mod Inside

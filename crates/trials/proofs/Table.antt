@@ -1,0 +1,35 @@
+-- Every row of the table holds: its test is computed, definition by definition.
+use mathlib.Core.Bool.{true}
+use mathlib.Core.Path.{_≡_, refl}
+use Rattle.laws.specs.Tests.{both, either, all, any, least}
+use Rattle.laws.specs.Counting.{count, many}
+use Rattle.laws.specs.Lists.{from, keep}
+use Rattle.laws.specs.Sorting.{gather, insert, sort}
+use Rattle.laws.specs.Orbits.{lowest-on}
+use Rattle.network.specs.Network.{touches, other, joins}
+use Rattle.network.specs.Numbers.{oversize, odd, astray, looped, doubled, mispaired}
+use Rattle.tree.specs.Tree.{higher, lower, climb, aboveb}
+use Rattle.tree.specs.Returns.{returnb, returns, low}
+use Rattle.search.specs.Machine.{free, lowest-free, take-line, leave, go, step, run, start, finished}
+use Rattle.search.specs.Inside.{everyone}
+use Rattle.fork.specs.Ends.{lowestb, high, more, top, highestb}
+use Rattle.fork.specs.Fork.{forkb, groupb, sameb, differentb, levelb, wherever, legalb, alignedb}
+use Rattle.groups.specs.Constraints.{apartb, oddb, orderedb, ringb}
+use Rattle.fans.specs.Fan.{side-of as line-side, leaving, rank, nested, fan}
+use Rattle.clockwise.specs.Order.{discovered, incoming, beside, clockwise}
+use Rattle.meshes.specs.Meshes.{opposite, leave as leave-by, follow-in, turned, step as next-direction, mesh-of, mesh-count, borders, mesh-size, mesh-list, size-list}
+use Rattle.listed.proofs.Granted.{properb}
+use Rattle.trials.specs.Trials.{side-of, sides, written, directions, Every, Holds}
+use Rattle.trials.specs.Table.{table}
+use Rattle.trials.proofs.Lists.{alike}
+use Rattle.trials.proofs.Choosing.{agreeb, beforeb, scan, everyb, not-later, firstb, nextb, lastb}
+use Rattle.trials.proofs.Ringing.{constraintb, roundb}
+use Rattle.trials.proofs.Claims.{each, fittingb, onwardb, choicesb, drawsb, test}
+use Rattle.trials.proofs.Rows.{refusal, holdsb, all-hold-of}
+
+table-passes : each holdsb table ≡ true
+unfolding both either all any least count many from keep gather insert sort lowest-on touches other joins oversize odd astray looped doubled mispaired higher lower climb aboveb returnb returns low free lowest-free take-line leave go step run start finished everyone lowestb high more top highestb forkb groupb sameb differentb levelb wherever legalb alignedb apartb oddb orderedb ringb line-side leaving rank nested fan discovered incoming beside clockwise opposite leave-by follow-in turned next-direction mesh-of mesh-count borders mesh-size mesh-list size-list side-of sides written directions alike agreeb beforeb properb scan everyb not-later firstb nextb lastb constraintb roundb each fittingb onwardb choicesb drawsb test refusal holdsb
+table-passes = refl
+
+pub all-hold : Every Holds table
+all-hold = all-hold-of table table-passes

@@ -1,0 +1,4 @@
+-- Small networks, and what the definitions say of them.
+pub mod Trials
+pub mod Table
+pub mod Answers
