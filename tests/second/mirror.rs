@@ -122,7 +122,7 @@ fn closed_by(
     begun_as_asked(lines, kinds)
 }
 
-/// Turns a ring so that it begins at its lowest line and goes on to the lower neighbour.
+/// Turns a ring so that its smallest line has the first step, and the smaller of its neighbours the second.
 fn begun_as_asked(mut lines: Vec<u16>, mut kinds: Vec<u16>) -> (Vec<u16>, Vec<u16>) {
     let length = lines.len();
     let lowest = (0..length)

@@ -6,6 +6,7 @@ ghost use lib.ListN.{length};
 ghost use Rattle.tree.specs.Tree.{«tree-of»};
 ghost use Rattle.fork.specs.Inside.{Known};
 ghost use Rattle.groups.specs.Order.{at};
+ghost use Rattle.grouping.specs.Inside.{TabledIn};
 ghost use Rattle.choice.specs.Choice.{Proper};
 ghost use Rattle.choice.specs.Calls.{FirstChoice, NextChoice};
 ghost use Rattle.choice.specs.Inside.{Decides};
@@ -48,7 +49,29 @@ pub fn first(
     let kinds = found.kinds;
     let heights = found.heights;
     let parents = found.parents;
-    let sorted = grouping::grouped(vertices, lines, ends, &kinds, &heights, &parents);
+    let returns = returns::forked(vertices, lines, ends, &kinds, &heights, &parents);
+    let sources = returns.sources;
+    let stops = returns.ends;
+    let lows = returns.lows;
+    let highs = returns.highs;
+    let rivals = returns.rivals;
+    let tops = returns.tops;
+    let bottoms = returns.bottoms;
+    let sorted = grouping::grouped(
+        vertices,
+        lines,
+        ends,
+        &kinds,
+        &heights,
+        &parents,
+        &sources,
+        &stops,
+        &lows,
+        &highs,
+        &rivals,
+        &tops,
+        &bottoms,
+    );
     let tie = sorted.tie;
     let parity = sorted.parity;
     let from = sorted.from;
@@ -101,7 +124,29 @@ pub fn next(vertices: usize, ends: &[u16], choice: &mut [u8]) -> Answer
     let kinds = found.kinds;
     let heights = found.heights;
     let parents = found.parents;
-    let sorted = grouping::grouped(vertices, lines, ends, &kinds, &heights, &parents);
+    let returns = returns::forked(vertices, lines, ends, &kinds, &heights, &parents);
+    let sources = returns.sources;
+    let stops = returns.ends;
+    let lows = returns.lows;
+    let highs = returns.highs;
+    let rivals = returns.rivals;
+    let tops = returns.tops;
+    let bottoms = returns.bottoms;
+    let sorted = grouping::grouped(
+        vertices,
+        lines,
+        ends,
+        &kinds,
+        &heights,
+        &parents,
+        &sources,
+        &stops,
+        &lows,
+        &highs,
+        &rivals,
+        &tops,
+        &bottoms,
+    );
     let tie = sorted.tie;
     let leader = sorted.leader;
     let parity = sorted.parity;
@@ -117,7 +162,7 @@ pub fn next(vertices: usize, ends: &[u16], choice: &mut [u8]) -> Answer
     Answer::done(lines + 1 - vertices, 0)
 }
 
-// Whether a lent choice is aligned, and written as it should be.
+// Whether a lent choice is aligned, and written as it should be, given what each line's returns are like.
 pub fn is_aligned(
     vertices: usize,
     lines: usize,
@@ -125,12 +170,34 @@ pub fn is_aligned(
     kinds: &[u8; 2048],
     heights: &[u16; 512],
     parents: &[u16; 512],
+    sources: &[u16; 2048],
+    stops: &[u16; 2048],
+    lows: &[u16; 2048],
+    highs: &[u16; 2048],
+    rivals: &[u16; 2048],
+    tops: &[u16; 2048],
+    bottoms: &[u16; 2048],
     choice: &[u8],
 ) -> bool
     requires { ⌜ Known vertices lines (now ends) (now kinds) (now heights) (now parents) × (lines ≤ length (now choice)) ⌝ }
+    requires { ⌜ TabledIn (tree-of vertices lines (now ends) (now kinds) (now heights) (now parents)) (now sources) (now stops) (now lows) (now highs) (now rivals) (now tops) (now bottoms) ⌝ }
     ensures { λ r. ⌜ Decides (Proper (tree-of vertices lines (now (ends .entry)) (now (kinds .entry)) (now (heights .entry)) (now (parents .entry))) (at (now (choice .entry)))) r ⌝ }
 {
-    let found = grouping::grouped(vertices, lines, ends, kinds, heights, parents);
+    let found = grouping::grouped(
+        vertices,
+        lines,
+        ends,
+        kinds,
+        heights,
+        parents,
+        sources,
+        stops,
+        lows,
+        highs,
+        rivals,
+        tops,
+        bottoms,
+    );
     let tie = found.tie;
     let leader = found.leader;
     let parity = found.parity;

@@ -17,8 +17,7 @@ discovered S out (suc k) v = gather (λ e. cond (S .tree e) (discovered S out k 
 unfoldable pub incoming : Tree → (ℕ → List ℕ) → (ℕ → Bool) → ℕ → ℕ → List ℕ
 incoming S out on-side v e = reverse (keep on-side (keep (λ b. eqb (S .target b) v) (discovered S out (S .vertices) (S .target e))))
 
--- A line that leaves v, with those that stand beside it: directly before a tree line the left ones that come in from above it, directly after it the right
--- ones.
+-- A line that leaves v, with its company: a tree line has the left ones that come in from above it on the one hand, the right ones on the other.
 unfoldable pub beside : Tree → (ℕ → List ℕ) → (ℕ → ℕ) → ℕ → ℕ → List ℕ
 beside S out side v e = cond (S .tree e) (incoming S out (is-left side) v e ++ (e ∷ incoming S out (is-right side) v e)) (e ∷ [])
 

@@ -2,3 +2,4 @@ pub mod Meshing
 pub mod Once
 pub mod Rooted
 pub mod Answering
+pub mod Walked

@@ -2,3 +2,4 @@
 pub mod Draw
 pub mod Drawing
 pub mod Settling
+pub mod Walked

@@ -48,14 +48,32 @@ pub fn draw(
     let kinds = found.kinds;
     let heights = found.heights;
     let parents = found.parents;
-    if !choice::is_aligned(vertices, lines, ends, &kinds, &heights, &parents, choice) {
-        return Answer::refused(8);
-    }
     let returns = returns::forked(vertices, lines, ends, &kinds, &heights, &parents);
     let sources = returns.sources;
+    let stops = returns.ends;
     let lows = returns.lows;
     let highs = returns.highs;
+    let rivals = returns.rivals;
     let tops = returns.tops;
+    let bottoms = returns.bottoms;
+    if !choice::is_aligned(
+        vertices,
+        lines,
+        ends,
+        &kinds,
+        &heights,
+        &parents,
+        &sources,
+        &stops,
+        &lows,
+        &highs,
+        &rivals,
+        &tops,
+        &bottoms,
+        choice,
+    ) {
+        return Answer::refused(8);
+    }
     let drawing = drawn(
         vertices,
         lines,

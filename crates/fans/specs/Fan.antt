@@ -26,13 +26,13 @@ is-right side e = not (is-left side e)
 unfoldable pub leaving : Tree → ℕ → List ℕ
 leaving S v = keep (λ e. both (S .live e) (eqb (S .source e) v)) (upto (S .lines))
 
--- They nest by their low; at equal low those whose returns end at one height only come before those with more; then by number.
+-- They nest by a rank: the low first, and where that is equal a line with several heights after those with one or none. Equal ranks go by number.
 unfoldable pub rank : Tree → ℕ → ℕ
 rank S e = 2 * low S e + more S e
 
 unfoldable pub nested : Tree → ℕ → List ℕ
 nested S v = sort (rank S) (leaving S v)
 
--- Clockwise they are the left ones in reversed nesting order, then the right ones in nesting order.
+-- Clockwise: the left ones, what nests first standing last, and after them the right ones as they nest.
 unfoldable pub fan : Tree → (ℕ → ℕ) → ℕ → List ℕ
 fan S side v = reverse (keep (is-left (side-of S side)) (nested S v)) ++ keep (is-right (side-of S side)) (nested S v)

@@ -8,6 +8,7 @@ use Rattle.fork.specs.Ends.{Lowest, top, bottom}
 use Rattle.fork.specs.Fork.{Fork}
 use Rattle.fork.specs.Link.{Link, Held, Overlap}
 use Rattle.fork.specs.Inside.{Table, source}
+use Rattle.returns.specs.Inside.{Tabled}
 use Rattle.groups.specs.Groups.{Tables, tables}
 use Rattle.groups.specs.Calls.{Room}
 use Rattle.ties.specs.Inside.{Closed, Together, Unkept, Ranked}
@@ -23,6 +24,11 @@ pub record ReturnsTied (S : Tree) (t : Tables) (passed : ℕ → ℕ → Type 0)
 -- .. and those between two lines of a fork, the first a tree line.
 pub record ForksTied (S : Tree) (t : Tables) (passed : ℕ → ℕ → Type 0) : Type 0 where
   pub tops : (f g : ℕ) → passed f g → TreeLine S f → Fork S f g → Overlap S f g → Closed t (top S f) (top S g) 1
+
+-- What each line's returns are like, table by table.
+abbrev pub TabledIn : Tree → List ℕ → List ℕ → List ℕ → List ℕ → List ℕ → List ℕ → List ℕ → Type 0
+TabledIn S sources stops lows highs rivals tops bottoms =
+    Tabled S (record { sources = sources; ends = stops; tops = tops; bottoms = bottoms; lows = lows; highs = highs; rivals = rivals })
 
 -- The tables that the way down goes by.
 pub record Prepared (S : Tree) (sources stops lows rivals tops bottoms : List ℕ) : Type 0 where

@@ -7,7 +7,7 @@ ghost use Rattle.tree.specs.Tree.{«tree-of»};
 ghost use Rattle.fork.specs.Inside.{Known};
 ghost use Rattle.groups.specs.Groups.{tables};
 ghost use Rattle.ties.specs.Inside.{Outcome, Crossed};
-ghost use Rattle.grouping.specs.Inside.{Prepared, Begun, ReturnsTied, ForksTied, Grouping};
+ghost use Rattle.grouping.specs.Inside.{TabledIn, Prepared, Begun, ReturnsTied, ForksTied, Grouping};
 use ties::Tie;
 
 // The groups of back lines that links hold together: for each line its leader, its side where the leader is left, and the link that joined the
@@ -20,7 +20,7 @@ pub struct Groups {
     pub to: [u16; 2048],
 }
 
-// Groups the back lines by all links.
+// Groups the back lines by all links, given what each line's returns are like.
 pub fn grouped(
     vertices: usize,
     lines: usize,
@@ -28,18 +28,18 @@ pub fn grouped(
     kinds: &[u8; 2048],
     heights: &[u16; 512],
     parents: &[u16; 512],
+    sources: &[u16; 2048],
+    stops: &[u16; 2048],
+    lows: &[u16; 2048],
+    highs: &[u16; 2048],
+    rivals: &[u16; 2048],
+    tops: &[u16; 2048],
+    bottoms: &[u16; 2048],
 ) -> Groups
     requires { ⌜ Known vertices lines (now ends) (now kinds) (now heights) (now parents) ⌝ }
+    requires { ⌜ TabledIn (tree-of vertices lines (now ends) (now kinds) (now heights) (now parents)) (now sources) (now stops) (now lows) (now highs) (now rivals) (now tops) (now bottoms) ⌝ }
     ensures { λ r. ⌜ Grouping (tree-of vertices lines (now (ends .entry)) (now (kinds .entry)) (now (heights .entry)) (now (parents .entry))) r ⌝ }
 {
-    let returns = returns::forked(vertices, lines, ends, kinds, heights, parents);
-    let sources = returns.sources;
-    let stops = returns.ends;
-    let lows = returns.lows;
-    let highs = returns.highs;
-    let rivals = returns.rivals;
-    let tops = returns.tops;
-    let bottoms = returns.bottoms;
     let mut leader = [0u16; 2048];
     let mut parity = [0u8; 2048];
     let mut from = [0u16; 2048];
@@ -52,13 +52,13 @@ pub fn grouped(
         kinds,
         heights,
         parents,
-        &sources,
-        &stops,
-        &lows,
-        &highs,
-        &rivals,
-        &tops,
-        &bottoms,
+        sources,
+        stops,
+        lows,
+        highs,
+        rivals,
+        tops,
+        bottoms,
         &mut leader,
         &mut parity,
         &mut from,

@@ -32,7 +32,7 @@ follow l x = follow-in (getD l 0 0) l x
 unfoldable pub turned : List ℕ → (ℕ → List ℕ) → ℕ → ℕ
 turned ends order d = leave ends (getD ends d 0) (follow (order (getD ends d 0)) (d / 2))
 
--- Arriving by d, leave by the next line clockwise.
+-- The walk goes on from d with what follows, at the vertex where d ends, the line that it came by.
 unfoldable pub step : List ℕ → (ℕ → List ℕ) → ℕ → ℕ
 step ends order d = turned ends order (opposite d)
 
@@ -53,7 +53,7 @@ module _ (live : ℕ → Bool) (m : ℕ) (ends : List ℕ) (order : ℕ → List
   unfoldable pub borders : ℕ → ℕ → Bool
   borders mesh k = both (live k) (either (eqb (mesh-of (2 * k)) mesh) (eqb (mesh-of (2 * k + 1)) mesh))
 
-  -- The size of a mesh: the number of different lines on it.
+  -- The size of a mesh: how many lines it has on it, one that it walks both ways counted once.
   unfoldable pub mesh-size : ℕ → ℕ
   mesh-size mesh = count (borders mesh) m
 

@@ -46,7 +46,7 @@ fn follow(directions: usize, d: usize, number: usize, nexts: &[u16], mesh: &mut 
     }
 }
 
-// The number of different lines on each mesh.
+// How many lines each mesh has on it, one that it walks both ways counted once.
 pub fn sized(lines: usize, mesh: &[u16]) -> [u16; 4097]
     requires { ⌜ Meshed lines (now mesh) ⌝ }
     ensures { λ r. ⌜ Sized lines (now (mesh .entry)) r ⌝ }

@@ -1,4 +1,4 @@
-// Which direction follows each: arriving at a vertex by a line, leave by the next line clockwise.
+// Which direction follows each: at the vertex where it ends, the line after its own in that vertex's order.
 ghost use mathlib.Core.Path.{_≡_};
 ghost use Prim.Native.Nat.{ℕ, _+_, _*_, _≤_, _<_};
 ghost use lib.ListN.{length};

@@ -11,7 +11,7 @@ use Rattle.network.specs.Network.{first, second}
 use Rattle.tree.specs.Tree.{Tree, higher, lower}
 use Rattle.tree.specs.Returns.{end, returnb, low}
 use Rattle.fork.specs.Ends.{high, top, bottom}
-use Rattle.fork.specs.Link.{ends-higher, ends-lower}
+use Rattle.fork.specs.Link.{rival, ends-higher, ends-lower}
 use Rattle.fork.specs.Inside.{source, Table, Rivals}
 use Rattle.returns.specs.declared.Forks.{Forks}
 
@@ -29,6 +29,11 @@ pub record Tabled (S : Tree) (r : Forks) : Type 0 where
 pub record Extremes (S : Tree) (tops bottoms : List ℕ) : Type 0 where
   pub each-top : Table S top tops
   pub each-bottom : Table S bottom bottoms
+
+-- Two values for each vertex that decide the rival of each line that leaves it: the second where the line's low is the first, else the first.
+pub record Least (S : Tree) (firsts seconds : List ℕ) : Type 0 where
+  pub own : (f : ℕ) → f < S .lines → low S f ≡ getD firsts (S .source f) 0 → getD seconds (S .source f) 0 ≡ rival S f
+  pub other : (f : ℕ) → f < S .lines → (low S f ≡ getD firsts (S .source f) 0 → ⊥) → getD firsts (S .source f) 0 ≡ rival S f
 
 -- The two ends of line k stand in the list, and are vertices.
 pub record Placed (ends heights : List ℕ) (k : ℕ) : Type 0 where

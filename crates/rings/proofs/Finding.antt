@@ -10,8 +10,8 @@ use lib.Seq.{getD-set-same}
 use Rattle.groups.specs.Order.{at}
 use Rattle.groups.specs.Calls.{Wide}
 use Rattle.groups.proofs.Filling.{put-at}
-use Rattle.rings.specs.Rings.{reach, Spread, Flooding, Climbing, Climbed, Trail, Finding, Chain, Showing, Writing, Written, Shown}
-use Rattle.rings.proofs.Flooding.{reached-few, all-reached}
+use Rattle.rings.specs.Rings.{reach, Found, Flooding, Climbing, Climbed, Trail, Finding, Chain, Showing, Writing, Written, Shown}
+use Rattle.rings.proofs.Flooding.{reached-few}
 use Rattle.rings.proofs.Climbing.{climb-none, via-less, climb-more, chain}
 use Rattle.rings.proofs.Showing.{shown}
 
@@ -68,7 +68,7 @@ module _ (lines d n : ℕ) (queue via place chain₀ : List ℕ) (o : Climbing l
 -- The chain
 
 module _ (lines b d : ℕ) (from to line : List ℕ) (f : Finding lines b d from to line) where
-  pub flooding : Flooding lines b from to (replicate {A = ℕ} 2048 0) (replicate {A = ℕ} 2048 0) (replicate {A = ℕ} 2048 0)
+  pub flooding : Flooding lines b d from to (replicate {A = ℕ} 2048 0) (replicate {A = ℕ} 2048 0) (replicate {A = ℕ} 2048 0)
   flooding =
       let l = length-replicate {A = ℕ} 2048 0 in
       record {
@@ -83,13 +83,12 @@ module _ (lines b d : ℕ) (from to line : List ℕ) (f : Finding lines b d from
               inside = f .inside;
             };
         root = f .first;
+        goal = f .second;
         fresh = λ x h. getD-replicate {A = ℕ} 2048 x 0 0 (omega (arith, f .few));
+        way = f .way;
       }
 
-  module _ (n : ℕ) (queue via place : List ℕ) (s : Spread lines b (at from) (at to) n n (reach queue via place)) where
-    reaches : (d < lines) × (0 < at place d)
-    reaches = all-reached lines b (at from) (at to) n n d (reach queue via place) s (omega arith) (f .first) (f .inside) (f .way)
-
+  module _ (n : ℕ) (queue via place : List ℕ) (s : Found lines b d (at from) (at to) n (reach queue via place)) where
     pub climbing : length queue ≡ 2048 → length via ≡ 2048 → length place ≡ 2048 → Climbing lines d n queue via place line
     climbing x y z =
         record {
@@ -99,7 +98,7 @@ module _ (lines b d : ℕ) (from to line : List ℕ) (f : Finding lines b d from
           places = omega (arith, f .few);
           chains = f .chains;
           inside = f .second;
-          reached = reaches .1;
+          reached = s .found;
           most = reached-few lines b (at from) (at to) n (reach queue via place) (s .reached .queued);
           queued = s .reached .queued;
         }

@@ -1,16 +1,18 @@
 -- The flood as the code makes it, on lists.
 use mathlib.Core.List.{List}
+use mathlib.Core.Logic.{_≢_}
 use mathlib.Core.Path.{_≡_, refl, sym, _∙_, subst}
-use Prim.Native.Nat.{ℕ, suc, _+_, _*_, _≤_, _<_}
+use Prim.Native.Nat.{ℕ, suc, _+_, _-_, _*_, _≤_, _<_}
 use native.Mathlib.Numerals.{add-one}
 use native.Mathlib.Omega.{arith}
 use lib.ListN.{length, set, length-set}
 use borrow.Author.Tests.{eq-eqb, ne-eqb}
+use Rattle.laws.proofs.Cases.{cases, lt-or}
 use Rattle.groups.specs.Order.{at}
 use Rattle.groups.specs.Calls.{Wide}
 use Rattle.groups.proofs.Filling.{put-at}
-use Rattle.rings.specs.Rings.{reach, across, Spread, Scanned, Room, Looking, Scanning, Flooding}
-use Rattle.rings.proofs.Flooding.{across-inside, reached-start, w-inside, scan-reached, room, scan-push, scan-none, scan-done, reached-few}
+use Rattle.rings.specs.Rings.{reach, across, Spread, Scanned, Found, Room, Looking, Scanning, Flooding}
+use Rattle.rings.proofs.Flooding.{across-inside, reached-start, w-inside, scan-reached, room, scan-push, scan-none, scan-done, all-reached, reached-few}
 
 -- The end beyond a step
 
@@ -136,7 +138,7 @@ module _ (lines b head : ℕ) (from to queue₀ via₀ place₀ : List ℕ) wher
       → Spread lines b (at from) (at to) n (head + 1) (reach queue via place)
   scans-done e n queue via place k h = rw (add-one head) (scan-done lines b (at from) (at to) n head e (reach queue via place) (k .state) h)
 
--- Looks from all places
+-- Looks from one place after the other, until d is reached
 
 pub record Floods (lines b head n : ℕ) (from to queue₀ via₀ place₀ queue via place : List ℕ) : Type 0 where
   pub most : n ≤ lines
@@ -145,9 +147,9 @@ pub record Floods (lines b head n : ℕ) (from to queue₀ via₀ place₀ queue
   pub kept : Kept queue₀ via₀ place₀ queue via place
   pub state : Spread lines b (at from) (at to) n head (reach queue via place)
 
-pub floods-start : (lines b : ℕ) (from to queue via place : List ℕ) → Flooding lines b from to queue via place
+pub floods-start : (lines b d : ℕ) (from to queue via place : List ℕ) → Flooding lines b d from to queue via place
     → Floods lines b 0 1 from to (set queue 0 b) via (set place b 1) (set queue 0 b) via (set place b 1)
-floods-start lines b from to queue via place f =
+floods-start lines b d from to queue via place f =
     let r = f .room in
     let h = f .root in
     let q = put-at queue 0 b (omega (arith, r .queues)) in
@@ -166,13 +168,23 @@ floods-start lines b from to queue via place f =
 
 module _ (lines b head n : ℕ) (from to queue₀ via₀ place₀ queue via place : List ℕ)
     (k : Floods lines b head n from to queue₀ via₀ place₀ queue via place) where
-  pub scanning : head < n → Scanning lines (at queue 0) head n from to queue via place
-  scanning h =
-      record {
-        room = k .room;
-        pending = h;
-        state = subst (λ (x : ℕ). Spread lines x (at from) (at to) n head (reach queue via place)) (sym (k .state .reached .root)) (k .state);
-      }
+  -- as long as d is not reached, a place is left: else all that a way leads to would be
+  module _ (d : ℕ) (queue₁ via₁ place₁ : List ℕ) (f : Flooding lines b d from to queue₁ via₁ place₁) (un : at place d ≡ 0) where
+    left : head < n
+    left =
+        cases (lt-or head n) (λ h. h)
+        (λ h. absurd (omega (arith, all-reached lines b (at from) (at to) n head d (reach queue via place) (k .state) h (f .root) (f .room .inside) (f .way) .1)))
+
+    pub scanning : Scanning lines (at queue 0) head n from to queue via place
+    scanning =
+        record {
+          room = k .room;
+          pending = left;
+          state = subst (λ (x : ℕ). Spread lines x (at from) (at to) n head (reach queue via place)) (sym (k .state .reached .root)) (k .state);
+        }
+
+    pub floods-fewer : lines - (head + 1) < lines - head
+    floods-fewer = omega (arith, left, k .most)
 
   pub floods-more : (n′ : ℕ) (queue′ via′ place′ : List ℕ) → Spread lines (at queue 0) (at from) (at to) n′ (head + 1) (reach queue′ via′ place′)
       → length queue′ ≡ length queue → length via′ ≡ length via → length place′ ≡ length place
@@ -186,7 +198,5 @@ module _ (lines b head n : ℕ) (from to queue₀ via₀ place₀ queue via plac
         state = subst (λ (x : ℕ). Spread lines x (at from) (at to) n′ (head + 1) (reach queue′ via′ place′)) (k .state .reached .root) s;
       }
 
-  pub floods-done : n ≤ head → Spread lines b (at from) (at to) n n (reach queue via place)
-  floods-done h =
-      let e : head ≡ n = omega (arith, k .ahead) in
-      subst (λ (x : ℕ). Spread lines b (at from) (at to) n x (reach queue via place)) e (k .state)
+  pub floods-done : (d : ℕ) → (at place d ≡ 0 → ⊥) → Found lines b d (at from) (at to) n (reach queue via place)
+  floods-done d o = let o′ : at place d ≢ 0 = o in record { reached = k .state .reached; found = omega arith }

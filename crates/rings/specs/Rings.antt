@@ -54,6 +54,11 @@ pub record Reached (lines b : ℕ) (from to : ℕ → ℕ) (n : ℕ) (r : Reach)
   pub root : r .queue 0 ≡ b
   pub twig : (i : ℕ) → 0 < i → i < n → Step lines from to (r .queue (r .via i)) (r .queue i)
 
+-- .. and d is one of them.
+pub record Found (lines b d : ℕ) (from to : ℕ → ℕ) (n : ℕ) (r : Reach) : Type 0 where
+  pub reached : Reached lines b from to n r
+  pub found : 0 < r .place d
+
 -- The other end of a step between u and v, seen from w; w itself where it is no end.
 unfoldable pub across : ℕ → ℕ → ℕ → ℕ
 across u v w = cond (eqb u w) v (cond (eqb v w) u w)
@@ -81,7 +86,8 @@ pub record Room (lines : ℕ) (from to queue via place : List ℕ) : Type 0 wher
   pub places : lines ≤ length place
   pub inside : (x : ℕ) → x < lines → (at from x < lines) × (at to x < lines)
 
--- What a look at step e from the place `head` asks, what all looks from there ask, and what the flood asks.
+-- What a look at step e from the place `head` asks, what all looks from there ask, and what the flood from b to d asks:
+-- nothing is reached yet, and a way leads there.
 pub record Looking (lines b e head n : ℕ) (from to queue via place : List ℕ) : Type 0 where
   pub room : Room lines from to queue via place
   pub below : e < lines
@@ -94,10 +100,12 @@ pub record Scanning (lines b head n : ℕ) (from to queue via place : List ℕ) 
   pub pending : head < n
   pub state : Spread lines b (at from) (at to) n head (reach queue via place)
 
-pub record Flooding (lines b : ℕ) (from to queue via place : List ℕ) : Type 0 where
+pub record Flooding (lines b d : ℕ) (from to queue via place : List ℕ) : Type 0 where
   pub room : Room lines from to queue via place
   pub root : b < lines
+  pub goal : d < lines
   pub fresh : (x : ℕ) → x < lines → at place x ≡ 0
+  pub way : Way (Joins lines (at from) (at to)) b d
 
 -- What the climb back from d asks.
 pub record Climbing (lines d n : ℕ) (queue via place line : List ℕ) : Type 0 where

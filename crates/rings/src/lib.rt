@@ -1,5 +1,6 @@
-// The ring that shows a conflict. A flood from one line of the constraint along the constraints that joined groups reaches the other; the way back
-// is a chain of different lines, and the constraint itself closes it. It is written from its lowest line on, to the lower neighbour first.
+// The ring that shows a conflict. A flood from one line of the constraint along the constraints that joined groups goes on until it reaches the
+// other; the way back is a chain of different lines, and the constraint itself closes it. It is written from its lowest line on, to the lower
+// neighbour first.
 //
 // Its contracts cite specs/Rings.antt.
 mod circle; // a chain of lines read as a ring
@@ -8,7 +9,7 @@ ghost use mathlib.Core.Path.{_≡_};
 ghost use Prim.Native.Nat.{_+_, _<_};
 ghost use lib.ListN.{length};
 ghost use Rattle.groups.specs.Order.{at};
-ghost use Rattle.rings.specs.Rings.{reach, across, Spread, Scanned, Looking, Scanning, Flooding, Climbing, Trail, Finding, Chain, Showing, Shown};
+ghost use Rattle.rings.specs.Rings.{reach, across, Spread, Scanned, Found, Looking, Scanning, Flooding, Climbing, Trail, Finding, Chain, Showing, Shown};
 use groups::wide;
 
 // Writes the ring that the constraint between b and d closes, its lines and their kinds, and answers how many lines it has.
@@ -48,7 +49,7 @@ fn find_chain(
     let mut queue = [0u16; 2048];
     let mut via = [0u16; 2048];
     let mut place = [0u16; 2048];
-    let reached = flood(lines, b, from, to, &mut queue, &mut via, &mut place);
+    let reached = flood(lines, b, d, from, to, &mut queue, &mut via, &mut place);
     climb(lines, d, reached, &queue, &via, &place, chain)
 }
 
@@ -124,25 +125,27 @@ fn scan(
     k
 }
 
-// Reaches all that steps lead to from `root`, and answers how many lines that is.
+// Looks from one line of the queue after the other, `root` first, until `goal` is reached, and answers how many lines then are. A way leads from
+// `root` to `goal`, so the queue does not run out before.
 fn flood(
     lines: usize,
     root: usize,
+    goal: usize,
     from: &[u16],
     to: &[u16],
     queue: &mut [u16],
     via: &mut [u16],
     place: &mut [u16],
 ) -> usize
-    requires { ⌜ Flooding lines root (now from) (now to) (now queue) (now via) (now place) ⌝ }
-    ensures { λ r. ⌜ Spread lines root (at (now (from .entry))) (at (now (to .entry))) r r
+    requires { ⌜ Flooding lines root goal (now from) (now to) (now queue) (now via) (now place) ⌝ }
+    ensures { λ r. ⌜ Found lines root goal (at (now (from .entry))) (at (now (to .entry))) r
         (reach (now (queue .exit)) (now (via .exit)) (now (place .exit))) ⌝ }
 {
     queue[0] = root as u16;
     place[root] = 1;
     let mut n = 1;
     let mut head = 0;
-    while head < n {
+    while place[goal] == 0 {
         n = scan(lines, head, n, from, to, queue, via, place);
         head += 1;
     }

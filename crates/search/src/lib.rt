@@ -1,4 +1,4 @@
-// The search: which lines are tree lines and which are back lines, and how high each vertex stands.
+// The search: it tells tree lines from back lines, and finds how high each vertex stands.
 //
 // `orient` is the call. `explore` is what every other call that needs the tree begins with. Their contracts cite specs/Orient.antt, whose words
 // stand on the machine of specs/Machine.antt.

@@ -1,6 +1,6 @@
 // The side of a back line, as a choice writes it: the one place where left and right are numbers.
 //
-// Left means that the back line's fundamental cycle, which is the line and the tree path between its ends, runs anticlockwise; right, clockwise.
+// Follow a back line down, and then the tree path up to its start: this round trip turns anticlockwise where the line is left, clockwise where it is right.
 ghost use mathlib.Core.Path.{_≡_};
 ghost use Rattle.side.specs.Sides.{opposite};
 

@@ -15,8 +15,8 @@ end S b = S .height (S .target b)
 abbrev pub backb : Tree → ℕ → Bool
 backb S b = both (S .live b) (not (S .tree b))
 
--- b is a return of e: a back line that is e itself or, for a tree line e, starts at or above the upper end of e; and it ends strictly below the
--- vertex that e leaves.
+-- b is a return of e: a back line by which one gets below the vertex that e leaves, after leaving it by e. So b is e, or e is a tree line and b
+-- starts in what is above it.
 unfoldable pub returnb : Tree → ℕ → ℕ → Bool
 returnb S e b =
     both (backb S b)
