@@ -1,15 +1,17 @@
--- Forks: two lines of one vertex that overlap have their tops tied apart. For each tree line one pass over all lines.
+-- Forks: two lines of one vertex that overlap have their tops tied apart. For each tree line one walk along the chain of the lines that leave where it
+-- leaves; a line that the chain passes over leaves elsewhere, and is of no fork with it.
 use mathlib.Core.Bool.{true}
 use mathlib.Core.List.{List}
 use mathlib.Core.Logic.{_⊎_, inl, inr, _≢_}
-use mathlib.Core.Path.{_≡_, refl, sym, subst}
-use Prim.Native.Nat.{ℕ, _+_, _≤_, _<_}
+use mathlib.Core.Path.{_≡_, refl, sym, ap, _∙_, subst}
+use Prim.Native.Nat.{ℕ, _+_, _-_, _≤_, _<_}
 use native.Mathlib.Omega.{arith}
 use lib.ListN.{getD}
 use borrow.Author.Tests.{eq-eqb, eqb-true, lt-ltb}
-use Rattle.laws.proofs.Cases.{cases, eq-or}
+use Rattle.laws.proofs.Cases.{cases, eq-or, lt-or}
 use Rattle.tree.specs.Tree.{Tree, tree-of}
 use Rattle.tree.specs.Words.{Line, TreeLine}
+use Rattle.tree.proofs.Grown.{searched}
 use Rattle.fork.specs.Ends.{top}
 use Rattle.fork.specs.Fork.{Fork}
 use Rattle.fork.specs.Link.{Overlap}
@@ -20,7 +22,7 @@ use Rattle.ties.specs.Inside.{Closed, Together, Onward, Outcome, obeyed, unkept
 use Rattle.ties.specs.declared.Tie.{Tie}
 use Rattle.ties.specs.declared.Tie.the-variants.{Holds, Tears}
 use Rattle.ties.proofs.Tying.{onward-same, onward-then}
-use Rattle.grouping.specs.Inside.{ForksTied, Forking, Begun}
+use Rattle.grouping.specs.Inside.{ForksTied, Forking, Begun, Leavable, Follows, Chained}
 use Rattle.grouping.proofs.Lasting.{forks-onward, Tying}
 
 -- One tree line
@@ -35,6 +37,11 @@ pub record Crossing (S : Tree) (f : ℕ) (t : Tables) (leader parity from to : L
   pub onward : Onward S t (tables leader parity from to)
   pub tied : ForksTied S (tables leader parity from to) (Passed-forks f g)
 
+-- .. and g leaves where f leaves, or is no line
+pub record Meeting (S : Tree) (sources : List ℕ) (f : ℕ) (t : Tables) (leader parity from to : List ℕ) (g : ℕ) : Type 0 where
+  pub crossing : Crossing S f t leader parity from to g
+  pub meets : g < S .lines → getD sources g 0 ≡ getD sources f 0
+
 module _ {n m : ℕ} {ends kinds heights parents : List ℕ} (known : Known n m ends kinds heights parents)
     {sources lows highs tops′ : List ℕ} (crossed : Crossed (tree-of n m ends kinds heights parents) sources lows highs tops′) where
   abbrev T : Tree
@@ -43,7 +50,14 @@ module _ {n m : ℕ} {ends kinds heights parents : List ℕ} (known : Known n m 
   line-of : (k : ℕ) → k < m → Line T k
   line-of k h = record { below = h; yes = lt-ltb _ _ (known .every k h) }
 
-  pub cross-start : {f : ℕ} {leader parity from to : List ℕ} → Forking T f leader parity from to → Crossing T f (tables leader parity from to) leader parity from to 0
+  small-source : (k : ℕ) → k < m → getD sources k 0 < 512
+  small-source k h =
+      omega (arith, crossed .each-source .each k h, searched n m ends kinds heights parents (known .grown) .source-in k (line-of k h), known .few-vertices)
+
+  pub all-leavable : Leavable m sources
+  all-leavable = record { few = known .few-lines; small = small-source }
+
+  cross-start : {f : ℕ} {leader parity from to : List ℕ} → Forking T f leader parity from to → Crossing T f (tables leader parity from to) leader parity from to 0
   cross-start {f} {leader} {parity} {from} {to} k =
       record {
         room = k .room;
@@ -77,7 +91,7 @@ module _ {n m : ℕ} {ends kinds heights parents : List ℕ} (known : Known n m 
             go : {A B : Type 0} → Outcome T (tables leader parity from to) u A (Tears x y z) → Outcome T t u B (Tears x y z)
             go (unkept c k) = unkept c k
 
-      pub cross-more : (leader′ parity′ from′ to′ : List ℕ) (q : Tie) → TiedTops m f g sources lows highs tops′ (tables leader parity from to) (tables leader′ parity′ from′ to′) q → q ≡ Holds
+      cross-more : (leader′ parity′ from′ to′ : List ℕ) (q : Tie) → TiedTops m f g sources lows highs tops′ (tables leader parity from to) (tables leader′ parity′ from′ to′) q → q ≡ Holds
           → Room m leader′ parity′ from′ to′ → Crossing T f t leader′ parity′ from′ to′ (g + 1)
       cross-more leader′ parity′ from′ to′ q tied e room = go (rw e at (came (tables leader′ parity′ from′ to′) q tied))
         where
@@ -100,6 +114,62 @@ module _ {n m : ℕ} {ends kinds heights parents : List ℕ} (known : Known n m 
                       (λ other. let other′ : d ≢ g = other in older .tops a d (inr (z .0, omega (arith, z .1))) y x v));
                 };
               }
+
+  -- The walk along the chain
+
+  hop : {f : ℕ} {t : Tables} {leader parity from to : List ℕ} {i : ℕ} → Crossing T f t leader parity from to i → TreeLine T f
+      → (g : ℕ) → Follows m sources (getD sources f 0) i g → Meeting T sources f t leader parity from to g
+  hop {f} {t} {leader} {parity} {from} {to} {i} w l g o =
+      record {
+        crossing = record {
+          room = w .room;
+          upto = o .upto;
+          groups = w .groups;
+          onward = w .onward;
+          tied = record {
+            tops = λ a c p y x v.
+                cases p (λ q. w .tied .tops a c (inl q) y x v)
+                (λ q. cases (lt-or c i) (λ b. w .tied .tops a c (inr (q .0, b)) y x v) (λ b. absurd (o .between c b (q .1) (one-place a c (q .0) x))));
+          };
+        };
+        meets = o .at;
+      }
+    where
+      one-place : (a c : ℕ) → a ≡ f → Fork T a c → getD sources c 0 ≡ getD sources f 0
+      one-place a c e x =
+          crossed .each-source .each c (x .second .below) ∙ sym (x .one-vertex) ∙ ap (λ (k : ℕ). T .source k) e ∙ sym (crossed .each-source .each f (l .0 .below))
+
+  module _ {firsts nexts : List ℕ} (chain : Chained m sources firsts nexts) where
+    module _ {f : ℕ} {leader parity from to : List ℕ} (k : Forking T f leader parity from to) where
+      pub meet-place : f < 2048
+      meet-place = omega (arith, k .tree-line .0 .below, known .few-lines)
+
+      module _ (v : ℕ) (is-v : (v ≡ getD sources f 0) × (v < 65536)) where
+        pub meet-vertex : v < 512
+        meet-vertex = omega (arith, is-v .0, small-source f (k .tree-line .0 .below))
+
+        pub meet-start : (g : ℕ) → (g ≡ getD firsts v 0) × (g < 65536) → Meeting T sources f (tables leader parity from to) leader parity from to g
+        meet-start g is-g =
+            hop (cross-start k) (k .tree-line) g
+            (subst (λ (x : ℕ). Follows m sources x 0 g) (is-v .0)
+            (subst (λ (x : ℕ). Follows m sources v 0 x) (sym (is-g .0)) (chain .firsts-are v meet-vertex)))
+
+    module _ {f : ℕ} {t : Tables} {leader parity from to : List ℕ} {g : ℕ} (w : Meeting T sources f t leader parity from to g) (l : TreeLine T f) (h : g < m) where
+      pub meet-line : g < 2048
+      meet-line = omega (arith, known .few-lines)
+
+      module _ (g′ : ℕ) (is-g′ : (g′ ≡ getD nexts g 0) × (g′ < 65536)) where
+        follows : Follows m sources (getD sources f 0) (g + 1) g′
+        follows =
+            subst (λ (x : ℕ). Follows m sources x (g + 1) g′) (w .meets h)
+            (subst (λ (x : ℕ). Follows m sources (getD sources g 0) (g + 1) x) (sym (is-g′ .0)) (chain .nexts-are g h))
+
+        pub meet-less : m - g′ < m - g
+        meet-less = omega (arith, follows .from)
+
+        pub meet-more : (leader′ parity′ from′ to′ : List ℕ) (q : Tie) → TiedTops m f g sources lows highs tops′ (tables leader parity from to) (tables leader′ parity′ from′ to′) q → q ≡ Holds
+            → Room m leader′ parity′ from′ to′ → Meeting T sources f t leader′ parity′ from′ to′ g′
+        meet-more leader′ parity′ from′ to′ q tied e room = hop (cross-more (w .crossing) l h leader′ parity′ from′ to′ q tied e room) l g′ follows
 
 -- All tree lines
 

@@ -1,10 +1,12 @@
-// The links of two lines of a fork that overlap: for each tree line one pass over all lines.
+// The links of two lines of a fork that overlap: for each tree line one walk along the lines that leave where it leaves.
 ghost use Prim.Native.Nat.{ℕ, _+_, _<_};
 ghost use Rattle.tree.specs.Tree.{«tree-of»};
 ghost use Rattle.fork.specs.Inside.{Known};
 ghost use Rattle.groups.specs.Groups.{tables};
 ghost use Rattle.ties.specs.Inside.{Outcome, Crossed};
-ghost use Rattle.grouping.specs.Inside.{Forking, ForksTied, Begun};
+ghost use Rattle.grouping.specs.Inside.{Forking, ForksTied, Begun, Chained};
+use crate::leaving::chained;
+use network::wide;
 use ties::Tie;
 use ties::pairs::tie_pair;
 
@@ -21,6 +23,8 @@ fn tie_fork(
     lows: &[u16; 2048],
     highs: &[u16; 2048],
     tops: &[u16; 2048],
+    firsts: &[u16; 512],
+    nexts: &[u16; 2048],
     leader: &mut [u16],
     parity: &mut [u8],
     from: &mut [u16],
@@ -29,13 +33,14 @@ fn tie_fork(
     requires { ⌜ Known vertices lines (now ends) (now kinds) (now heights) (now parents) ⌝ }
     requires { ⌜ Crossed (tree-of vertices lines (now ends) (now kinds) (now heights) (now parents)) (now sources) (now lows) (now highs) (now tops) ⌝ }
     requires { ⌜ Forking (tree-of vertices lines (now ends) (now kinds) (now heights) (now parents)) f (now leader) (now parity) (now from) (now to) ⌝ }
+    requires { ⌜ Chained lines (now sources) (now firsts) (now nexts) ⌝ }
     ensures { λ r. ⌜ Outcome (tree-of vertices lines (now (ends .entry)) (now (kinds .entry)) (now (heights .entry)) (now (parents .entry)))
         (tables (now (leader .entry)) (now (parity .entry)) (now (from .entry)) (now (to .entry)))
         (tables (now (leader .exit)) (now (parity .exit)) (now (from .exit)) (now (to .exit)))
         (ForksTied (tree-of vertices lines (now (ends .entry)) (now (kinds .entry)) (now (heights .entry)) (now (parents .entry)))
         (tables (now (leader .exit)) (now (parity .exit)) (now (from .exit)) (now (to .exit))) (λ a g. a < f + 1)) r ⌝ }
 {
-    let mut g = 0;
+    let mut g = wide(firsts[wide(sources[f])]);
     while g < lines {
         match tie_pair(
             lines,
@@ -53,7 +58,7 @@ fn tie_fork(
             Tie::Holds => {}
             Tie::Tears(x, y, z) => return Tie::Tears(x, y, z),
         }
-        g += 1;
+        g = wide(nexts[g]);
     }
     Tie::Holds
 }
@@ -84,6 +89,9 @@ pub(crate) fn tie_forks(
         (ForksTied (tree-of vertices lines (now (ends .entry)) (now (kinds .entry)) (now (heights .entry)) (now (parents .entry)))
         (tables (now (leader .exit)) (now (parity .exit)) (now (from .exit)) (now (to .exit))) (λ a g. a < lines)) r ⌝ }
 {
+    let chain = chained(lines, sources);
+    let firsts = chain.firsts;
+    let nexts = chain.nexts;
     let mut f = 0;
     while f < lines {
         let after = f + 1;
@@ -100,6 +108,8 @@ pub(crate) fn tie_forks(
                 lows,
                 highs,
                 tops,
+                &firsts,
+                &nexts,
                 leader,
                 parity,
                 from,

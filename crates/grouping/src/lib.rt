@@ -1,5 +1,6 @@
 // The groups of a tree's back lines: every link taken in, or the first that tears.
 mod forks;
+mod leaving;
 mod ways;
 
 ghost use Prim.Native.Nat.{ℕ, _<_};

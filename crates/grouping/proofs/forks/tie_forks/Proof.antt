@@ -4,30 +4,33 @@ use Prim.Native.Nat.{_-_}
 use Rattle.tree.specs.Tree.{tree-of}
 use Rattle.groups.specs.Groups.{tables}
 use Rattle.grouping.proofs.Lasting.{Lasting, room-lasting, Tying, tying-torn, tying-more}
-use Rattle.grouping.proofs.Crossing.{Forks, forks-start, forks-done, forks-started, forks-skip}
+use Rattle.grouping.proofs.Crossing.{Forks, all-leavable, forks-start, forks-done, forks-started, forks-skip}
 use borrow.Author.Needs.{needs}
 use Rattle.grouping.proofs.forks.tie_forks.Statement.{statement}
 use Rattle.grouping.proofs.forks.tie_forks.Tie as tie
 
 abbrev Inv-loop : tie.InvT-loop
-Inv-loop vertices lines ends kinds heights parents sources lows highs tops leader₀ parity₀ from₀ to₀ f₀ leader parity from to f =
+Inv-loop vertices lines ends kinds heights parents sources lows highs tops leader₀ parity₀ from₀ to₀ firsts nexts f₀ leader parity from to f =
     Tying (tree-of vertices lines ends kinds heights parents) (tables leader₀ parity₀ from₀ to₀) leader parity from to (Forks (tree-of vertices lines ends kinds heights parents) f)
     × Lasting leader₀ parity₀ from₀ to₀ leader parity from to
 
 abbrev μ-loop : tie.MeasureT-loop
-μ-loop vertices lines ends kinds heights parents sources lows highs tops leader₀ parity₀ from₀ to₀ f₀ leader parity from to f = lines - f
+μ-loop vertices lines ends kinds heights parents sources lows highs tops leader₀ parity₀ from₀ to₀ firsts nexts f₀ leader parity from to f = lines - f
+
+chained-requires : tie.Need-chained-requires Inv-loop μ-loop
+chained-requires c κs = all-leavable (c .before .before .before .before .before .pre .0) (c .before .before .before .before .before .pre .1 .0)
 
 loop-holds : tie.Need-loop-holds Inv-loop μ-loop
-loop-holds c = (forks-start (c .before .before .before .before .before .pre .0) (c .before .before .before .before .before .pre .1 .1), (record { leaders = omega arith; parities = omega arith; froms = omega arith; tos = omega arith }))
+loop-holds c = (forks-start (c .before .before .before .before .before .before .before .before .pre .0) (c .before .before .before .before .before .before .before .before .pre .1 .1), (record { leaders = omega arith; parities = omega arith; froms = omega arith; tos = omega arith }))
 
 add-after : tie.Need-add-after Inv-loop μ-loop
 add-after c = search needs
 
 element-copy-out-if1 : tie.Need-element-copy-out-if1 Inv-loop μ-loop
-element-copy-out-if1 c = omega (arith, c .before .before .before .before .before .before .before .pre .0 .few-lines)
+element-copy-out-if1 c = omega (arith, c .before .before .before .before .before .before .before .before .before .before .pre .0 .few-lines)
 
 tie-fork-requires : tie.Need-tie-fork-requires Inv-loop μ-loop
-tie-fork-requires c κs = (c .before .before .before .before .before .before .before .before .before .before .before .before .before .pre .0, (c .before .before .before .before .before .before .before .before .before .before .before .before .before .pre .1 .0, forks-started (c .before .before .before .before .before .before .before .before .before .before .before .before .before .pre .0) (c .before .before .before .before .before .before .before .loop .inv .0) (c .before .before .before .before .before .before .loop-test .taken) (c .before .before .before .before .if1 .taken)))
+tie-fork-requires c κs = (c .before .before .before .before .before .before .before .before .before .before .before .before .before .before .before .before .before .before .pre .0, (c .before .before .before .before .before .before .before .before .before .before .before .before .before .before .before .before .before .before .pre .1 .0, (forks-started (c .before .before .before .before .before .before .before .before .before .before .before .before .before .before .before .before .before .before .pre .0) (c .before .before .before .before .before .before .before .before .before .loop .inv .0) (c .before .before .before .before .before .before .before .before .loop-test .taken) (c .before .before .before .before .before .before .if1 .taken), c .before .before .before .before .before .before .before .before .before .before .before .before .chained .ensures)))
 
 enum-told : tie.Need-enum-told Inv-loop μ-loop
 enum-told c = search needs
@@ -48,19 +51,19 @@ same-length-4 : tie.Need-same-length-4 Inv-loop μ-loop
 same-length-4 c = search needs
 
 returns : tie.Need-returns Inv-loop μ-loop
-returns c = tying-torn (c .before .before .before .before .before .before .before .before .before .before .before .before .before .before .before .before .before .before .before .loop .inv .0) _ _ (c .before .before .before .before .before .before .before .before .before .before .before .tie-fork .ensures) (c .before .x .given .1)
+returns c = tying-torn (c .before .before .before .before .before .before .before .before .before .before .before .before .before .before .before .before .before .before .before .before .before .loop .inv .0) _ _ (c .before .before .before .before .before .before .before .before .before .before .before .tie-fork .ensures) (c .before .x .given .1)
 
 loop-less : tie.Need-loop-less Inv-loop μ-loop
 loop-less c = omega arith
 
 loop-again : tie.Need-loop-again Inv-loop μ-loop
-loop-again c = (tying-more (c .before .before .before .before .before .before .before .before .before .before .before .before .before .before .before .before .before .before .loop .inv .0) _ _ _ _ _ _ (c .before .before .before .before .before .before .before .before .before .before .tie-fork .ensures) (c .enum-told .given .1) (room-lasting (c .before .before .before .before .before .before .before .before .before .before .before .before .before .before .before .before .before .before .loop .inv .0 .room) (record { leaders = omega arith; parities = omega arith; froms = omega arith; tos = omega arith })) (λ new. (omega arith, new)), (record { leaders = omega arith; parities = omega arith; froms = omega arith; tos = omega arith }))
+loop-again c = (tying-more (c .before .before .before .before .before .before .before .before .before .before .before .before .before .before .before .before .before .before .before .before .loop .inv .0) _ _ _ _ _ _ (c .before .before .before .before .before .before .before .before .before .before .tie-fork .ensures) (c .enum-told .given .1) (room-lasting (c .before .before .before .before .before .before .before .before .before .before .before .before .before .before .before .before .before .before .before .before .loop .inv .0 .room) (record { leaders = omega arith; parities = omega arith; froms = omega arith; tos = omega arith })) (λ new. (omega arith, new)), (record { leaders = omega arith; parities = omega arith; froms = omega arith; tos = omega arith }))
 
 loop-less-2 : tie.Need-loop-less-2 Inv-loop μ-loop
 loop-less-2 c = omega arith
 
 loop-again-2 : tie.Need-loop-again-2 Inv-loop μ-loop
-loop-again-2 c = (forks-skip (c .before .before .before .before .before .before .before .before .before .pre .0) (c .before .before .before .loop .inv .0) (c .before .before .loop-test .taken) (c .if1 .left), (record { leaders = omega arith; parities = omega arith; froms = omega arith; tos = omega arith }))
+loop-again-2 c = (forks-skip (c .before .before .before .before .before .before .before .before .before .before .before .before .pre .0) (c .before .before .before .loop .inv .0) (c .before .before .loop-test .taken) (c .if1 .left), (record { leaders = omega arith; parities = omega arith; froms = omega arith; tos = omega arith }))
 
 same-length-5 : tie.Need-same-length-5 Inv-loop μ-loop
 same-length-5 c = search needs
@@ -75,7 +78,7 @@ same-length-8 : tie.Need-same-length-8 Inv-loop μ-loop
 same-length-8 c = search needs
 
 returns-2 : tie.Need-returns-2 Inv-loop μ-loop
-returns-2 c = forks-done (c .before .before .before .before .before .before .before .pre .0) (c .before .loop .inv .0) (c .loop-test .left)
+returns-2 c = forks-done (c .before .before .before .before .before .before .before .before .before .before .pre .0) (c .before .loop .inv .0) (c .loop-test .left)
 
 pub tie-forks-spec : {M : Type 1} → statement M
 tie-forks-spec =
@@ -83,6 +86,7 @@ tie-forks-spec =
     (tie.spec
     Inv-loop
     μ-loop
+    chained-requires
     loop-holds
     add-after
     element-copy-out-if1
