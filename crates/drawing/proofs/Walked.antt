@@ -29,7 +29,7 @@ use Rattle.clockwise.proofs.Wholes.{drawn-whole}
 use Rattle.drawing.specs.Draw.{clockwise-in, meshes-in, mesh-list-in, cramped-draw, Balanced, Undrawn, Drew, Draw}
 use Rattle.drawing.specs.Walked.{after, Walked}
 
-at-map : (f : ℕ → ℕ) (a n b : ℕ) → b < n → at (map f (from a n)) b ≡ f (a + b)
+pub at-map : (f : ℕ → ℕ) (a n b : ℕ) → b < n → at (map f (from a n)) b ≡ f (a + b)
 unfolding from
 at-map f a zero b h = absurd (omega arith)
 at-map f a (suc n) zero h = ap f (omega arith)

@@ -10,17 +10,13 @@ use lib.Seq.{getD-set-same, getD-set-other, getD-drop, getD-take, length-slice}
 use Rattle.laws.specs.Counting.{many}
 use Rattle.laws.proofs.Cases.{cases, eq-or, lt-or}
 use Rattle.laws.proofs.Orbits.{In}
-use Rattle.laws.proofs.Places.{place, place-at}
+use Rattle.laws.proofs.Places.{place}
 use Rattle.network.specs.Network.{Network}
 use Rattle.network.specs.Inside.{Fit}
 use Rattle.meshes.specs.Meshes.{opposite, leave, turned, step, either-way}
 use Rattle.meshes.specs.Inside.{every, after, order-in, Laid, Linked}
 use Rattle.meshes.proofs.Directions.{opposite-even, opposite-odd, opposite-twice, opposite-below, leave-first, leave-second, leave-one, after-more, after-last, after-in}
-use Rattle.meshes.proofs.Turning.{once, member, member-way, stands}
-
--- nothing stands twice: two places with one member are one place
-place-one : (r : List ℕ) → ((z : ℕ) → many z r ≤ 1) → (i j : ℕ) → i < length r → j < length r → getD r i 0 ≡ getD r j 0 → i ≡ j
-place-one r o i j h g z = sym (place-at 0 r i h (o (getD r i 0))) ∙ ap (λ (x : ℕ). place x r) z ∙ place-at 0 r j g (o (getD r j 0))
+use Rattle.meshes.proofs.Turning.{same-place, once, member, member-way, stands}
 
 module _ (net : Network) (fit : Fit net) (order starts : List ℕ) (laid : Laid net order starts) where
   abbrev ends : List ℕ
@@ -72,7 +68,7 @@ module _ (net : Network) (fit : Fit net) (order starts : List ℕ) (laid : Laid 
     back-one : (j : ℕ) → j < length (rot v) → back j ≡ back i → j ≡ i
     unfolding back
     back-one j k q =
-        place-one (rot v) (λ z. once net fit every rot (laid .whole) v z h) j i k in-part
+        same-place (rot v) (λ z. once net fit every rot (laid .whole) v z h) j i k in-part
         (leave-one ends v _ _ (sym (opposite-twice _) ∙ ap opposite q ∙ opposite-twice _))
 
     pub linking-more : (d e : ℕ) → d ≡ opposite (leave ends v (getD order (from v + i) 0)) → e ≡ leave ends v (getD order (from v + after (many-at v) i) 0)

@@ -17,6 +17,10 @@ use Rattle.meshes.specs.Meshes.{opposite, leave, turned, step, either-wa
 use Rattle.meshes.specs.Inside.{Whole, after}
 use Rattle.meshes.proofs.Directions.{opposite-half, opposite-twice, opposite-below, leave-half, leave-below, leave-one, leave-from, from-end, from-leaves, after-in, after-one, follow-at}
 
+-- nothing stands twice: two places with one member are one place
+pub same-place : (r : List ℕ) → ((z : ℕ) → many z r ≤ 1) → (i j : ℕ) → i < length r → j < length r → getD r i 0 ≡ getD r j 0 → i ≡ j
+same-place r o i j h g z = sym (place-at 0 r i h (o (getD r i 0))) ∙ ap (λ (x : ℕ). place x r) z ∙ place-at 0 r j g (o (getD r j 0))
+
 module _ (net : Network) (fit : Fit net) (live : ℕ → Bool) (order : ℕ → List ℕ) (whole : Whole net live order) where
   abbrev n : ℕ
   n = net .vertices
@@ -122,9 +126,6 @@ module _ (net : Network) (fit : Fit net) (live : ℕ → Bool) (order : ℕ → 
 
       standing-at : (e : ℕ) → Way e → (v : ℕ) → at e ≡ v → Standing-at v e
       standing-at e u v z = let s = stands e u in subst (λ (x : ℕ). Standing-at x e) z (s .place-below, s .itself, s .turns)
-
-      same-place : (r : List ℕ) → ((z : ℕ) → many z r ≤ 1) → (i j : ℕ) → i < length r → j < length r → getD r i 0 ≡ getD r j 0 → i ≡ j
-      same-place r o i j h g z = sym (place-at 0 r i h (o (getD r i 0))) ∙ ap (λ (x : ℕ). place x r) z ∙ place-at 0 r j g (o (getD r j 0))
 
   -- The mesh map is one-to-one, so each direction in service is on exactly one mesh.
   pub turn : Turn (2 * m) (either-way live) (step ends order)

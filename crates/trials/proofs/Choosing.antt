@@ -22,6 +22,7 @@ use Rattle.fork.proofs.Choices.{aligned-agree}
 use Rattle.groups.specs.Order.{at, Agree, Before, First, Next, Last}
 use Rattle.groups.proofs.Order.{agree-sym, before-same}
 use Rattle.choice.specs.Choice.{Proper}
+use Rattle.drawing.proofs.Walked.{at-map}
 use Rattle.listed.proofs.Granted.{properb, proper-yes, proper-agree, proper-of}
 
 -- Two choices
@@ -83,12 +84,6 @@ scan-of (true ∷ backs) test t (x ∷ l) s =
     subst (λ (y : ℕ). test (y ∷ l) ≡ true) (sym e) (scan-of backs (λ r. test (1 ∷ r)) (q .1) l (s .1)))
 
 -- A choice as a list of its bytes
-
-at-map : (c : ℕ → ℕ) (a n b : ℕ) → b < n → at (map c (from a n)) b ≡ c (a + b)
-unfolding from
-at-map c a zero b h = absurd (omega arith)
-at-map c a (suc n) zero h = ap c (omega arith)
-at-map c a (suc n) (suc b) h = at-map c (suc a) n b (omega arith) ∙ ap c (omega arith)
 
 module _ (S : Tree) where
   -- the test passes of every proper choice
