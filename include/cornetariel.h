@@ -1,43 +1,75 @@
 /* cornetariel.h -- the calls of Cornetariel for C and C++
  *
- * Can an electricity network be laid out flat, no line crossing another? If so, on which side does each
- * back line go? If not, why not? docs/RULES.md fixes every number that a call returns and every place
- * that it writes; this header says what a caller has to know of it. It needs C99 or C++11.
+ * Can an electricity network be laid out flat, no line crossing another? If so, how do the lines follow each
+ * other round every vertex, and which meshes do they enclose? If not, why not? This header is the manual of the
+ * six calls. docs/RULES.md is the whole of the rules: it fixes every number that a call returns and every place
+ * that it writes, but for which ring is shown. The header needs C99 or C++11.
  *
- * The archive, target/staticlib/libcornetariel.a, comes from `rt staticlib cornetariel`. It holds x86-64
- * code and asks of the C library memcpy and memset, and nothing that allocates, prints or exits.
+ * The archive, target/staticlib/libcornetariel.a, comes from `rt staticlib cornetariel`. It holds x86-64 code
+ * and asks of the C library memcpy and memset, and nothing that allocates, prints or exits.
  *
  *
  * A network in memory
  *
- * A network is a vertex count and a list of ends. Vertices and lines are counted from 0. At place 2k of
- * the list stands the first end of line k, at place 2k + 1 its second, so a list of n lines has 2n places.
- * This is K4, four vertices all joined to each other:
+ * A network is a vertex count and a list of ends. Vertices and lines are counted from 0. At place 2k of the list
+ * stands the first end of line k, at place 2k + 1 its second, so a list of n lines has 2n places. This is K4,
+ * four vertices all joined to each other:
  *
  *     uint16_t ends[12] = {0,1, 1,2, 2,3, 3,0, 3,1, 2,0};
  *     uint8_t kinds[6];
  *     uint16_t heights[4];
  *     uint64_t answer = cornetariel_orient(4, ends, 12, kinds, 6, heights, 4);
  *
- * The order of a line's two ends gives its flow a sign. No call swaps them.
+ * The order of a line's two ends gives its flow a sign: flow towards the second end is positive. No call swaps
+ * them.
  *
  *
  * Memory
  *
- * The caller owns all memory and lends it for the time of the call. A call allocates nothing, frees
- * nothing and keeps nothing, neither a pointer nor any other state: calls are reentrant, and several
- * threads may call at once as long as none of them writes to memory that another one has lent.
+ * The caller owns all memory and lends it for the time of the call. A call allocates nothing, frees nothing and
+ * keeps nothing, neither a pointer nor any other state: calls are reentrant, and several threads may call at
+ * once as long as none of them writes to memory that another one has lent.
  *
- * Each buffer is a pointer and a length. The length counts elements (bytes, or 16-bit numbers), not bytes.
- * Each buffer needs a room, given at each call below. It may be longer than that; the places beyond what
- * is filled keep what they held.
+ * Each buffer is a pointer and a length. The length counts elements (bytes, or 16-bit numbers), not bytes. Each
+ * buffer needs a room, given at each call below. It may be longer than that; the places beyond what is filled
+ * keep what they held.
  *
- * Two things a call cannot check, and they are all that is asked of the caller: that a pointer has as many
- * elements behind it as the length says, and that no two buffers of one call overlap. Whatever else is
- * wrong with what is lent is answered with a number.
+ * Two things a call cannot check, and they are all that is asked of the caller: that a pointer is one to as many
+ * elements of its type as the length says, and that no two buffers of one call overlap. Whatever else is wrong
+ * with what is lent is answered with a number. Nothing is read or written behind a pointer whose length is 0, so
+ * NULL will do for it: a network without lines has no list of ends and no choice.
  *
- * A call takes at most about half a megabyte of stack, most of it a table of all pairs of vertices. A
- * thread that was given a small stack should have one megabyte.
+ * A call takes about half a megabyte of stack at most: 510,000 bytes were measured, for draw on a path through
+ * 512 vertices. Half of that is a table of all pairs of vertices. A thread that was given a small stack should
+ * have one megabyte.
+ *
+ *
+ * Words
+ *
+ * The search begins at vertex 0 and uses at each vertex the unused line with the lowest number; where there is
+ * none it goes back. A line by which it finds a new vertex is a tree line and points up to that vertex. Any other
+ * line is a back line and points down, from where the search met it to a vertex found before. A line leaves the
+ * vertex that it points away from. The height of a vertex counts the tree lines from vertex 0 to it. One vertex
+ * is above another if the way from it down tree lines to vertex 0 goes through the other.
+ *
+ * The returns of a line that leaves v: of a back line, itself; of a tree line, the back lines that start at its
+ * upper end or above that and end below v. One that ends at v itself is no return. The low of a line is the
+ * least height at which one of its returns ends; if it has none, the height of v.
+ *
+ * Two lines e and f that leave one vertex are a fork. It has two groups: the returns of e whose end is higher
+ * than the low of f, and the returns of f whose end is higher than the low of e. A return that ends level with
+ * the other line's low is in neither. A choice puts each back line on a side, left or right. By the fork rule a
+ * group has one side, and the two groups of a fork have different sides. An empty group asks for nothing.
+ *
+ * A choice is legal if it obeys the rule of every fork. It is aligned if it is legal and no tree line has two
+ * returns on different sides that both end at its low. Where some choice is legal, some choice is aligned, and
+ * these are the networks that can be laid out flat.
+ *
+ *
+ * Versions
+ *
+ * A change that breaks programs raises the first number, what is added the second, what is mended the third. A
+ * number that a call answers never changes its meaning, in any version. CHANGELOG.md says what each brought.
  */
 #ifndef CORNETARIEL_H
 #define CORNETARIEL_H
@@ -48,6 +80,11 @@
 #ifdef __cplusplus
 extern "C" {
 #endif
+
+#define CORNETARIEL_VERSION_MAJOR 1
+#define CORNETARIEL_VERSION_MINOR 1
+#define CORNETARIEL_VERSION_PATCH 0
+#define CORNETARIEL_VERSION "1.1.0"
 
 /* A network has at least one vertex and at most these many vertices and lines. It may have no lines. */
 #define CORNETARIEL_MAX_VERTICES 512
@@ -95,7 +132,9 @@ enum cornetariel_numbers {
     CORNETARIEL_END = 4,
 
     /* Some line has twice the same end, or some pair of vertices has a second line, in whichever order its
-     * ends are named. Leave such lines out: they never decide whether a network can be laid out flat. */
+     * ends are named. Such a line never decides whether a network can be laid out flat: if that is all that is
+     * asked, leave it out. But it carries flow and closes a loop. If meshes are wanted, put a new vertex in the
+     * middle of a second line, and two in a line from a vertex to itself. Its parts then have one flow. */
     CORNETARIEL_PAIR = 5,
 
     /* Some vertex cannot be reached from some other along lines. Ask about each connected part as a network
@@ -103,7 +142,8 @@ enum cornetariel_numbers {
     CORNETARIEL_UNREACHED = 6,
 
     /* No choice is legal, so the network cannot be laid out flat. This is a result and no mistake: the ring
-     * buffers now hold a ring, which shows why. Only first answers this. */
+     * buffers now hold a ring, which shows why. It does not say which line to take out: that may be one
+     * outside the ring, and one of the ring alone may not be enough. Only first answers this. */
     CORNETARIEL_RING = 7,
 
     /* The choice that is lent has a wrong byte (2 belongs to each tree line, 0 or 1 to each back line), or it
@@ -125,17 +165,14 @@ enum cornetariel_kinds { CORNETARIEL_TREE_LINE = 0, CORNETARIEL_BACK_LINE = 1 };
 
 /* What a choice has for a line: the side of a back line, or 2 for a tree line. These are not orient's bytes,
  * where 0 and 1 have another meaning. A left line's round trip, down the line and up the tree lines to its
- * start again, turns anticlockwise, a right line's clockwise. */
+ * start again, turns anticlockwise, a right line's clockwise, where the outer mesh is the one that draw names
+ * below. */
 enum cornetariel_sides { CORNETARIEL_LEFT = 0, CORNETARIEL_RIGHT = 1, CORNETARIEL_NO_SIDE = 2 };
 
 /* What a step of a ring asks of its line and the next one: the same side or different sides. */
 enum cornetariel_constraints { CORNETARIEL_SAME = 0, CORNETARIEL_DIFFERENT = 1 };
 
 /* orient: what each line is, and how high each vertex stands.
- *
- * The search starts at vertex 0 and takes at each vertex the unused line with the lowest number. A line by
- * which it finds a new vertex is a tree line, any other is a back line. The height of a vertex counts the
- * tree lines from vertex 0 to it.
  *
  *   ends      2 * lines places, read. Its length gives the line count.
  *   kinds     room for a byte a line. On 0: byte k is 0 if line k is a tree line, 1 if it is a back line.
@@ -157,8 +194,12 @@ uint64_t cornetariel_orient(size_t vertices, const uint16_t *ends, size_t ends_l
  *                step, 0 the same side, 1 different sides; the last step's leads back to the first line. On 0
  *                it stays.
  *
- * A ring has an odd number of constraints that ask for different sides, so no choice meets them all. A
- * network may have several rings; the rules leave open which one is written.
+ * A ring is a round of two or more back lines, no line twice. The constraint of a step comes from a fork: its
+ * line and the next are in one group of it, and to have the same side, or one in each group, and to have
+ * different sides. An odd number of steps asks for different sides, so no choice meets them all. The first step
+ * has the lowest line of the ring, and the second step the lower of the two lines beside it in the round. A ring
+ * of two lines has "same" in its first step. A network may have many rings; the rules leave open which one is
+ * written.
  *
  * Numbers: 0, 2, 3, 4, 5, 6, 7. On 2 to 6 all buffers stay as they were.
  * First count: on 0 the number of back lines, on 7 it is 0. Second count: on 0 it is 0, on 7 the number of
@@ -169,7 +210,8 @@ uint64_t cornetariel_first(size_t vertices, const uint16_t *ends, size_t ends_le
 /* next: the aligned choice that follows the one lent.
  *
  * first, and then next until it answers 9, goes through all aligned choices, each once and in their order.
- * Their number is a power of two, and it may well be too great to go through them all.
+ * Their number is a power of two, and it may be far too great to go through them all: a path through 511
+ * vertices, all joined to one more, can have 2^510.
  *
  *   ends     2 * lines places, read.
  *   choice   room for a byte a line, read. On 0: the earliest aligned choice that is later, written over it.
@@ -208,20 +250,39 @@ uint64_t cornetariel_write(size_t vertices, const uint16_t *ends, size_t ends_le
 
 /* draw: the clockwise order of the lines at every vertex, and the meshes, of an aligned choice.
  *
- * Direction 2k goes along line k from its first end to its second, direction 2k + 1 the other way. Each
- * direction has one mesh on its left hand. Mesh 0 is that of direction 0; of the directions not on it, the
- * lowest is on mesh 1; and so on. The size of a mesh counts its lines, one that it walks both ways once.
+ * Direction 2k goes along line k from its first end to its second, direction 2k + 1 the other way. So direction
+ * d leaves vertex ends[d], arrives at ends[d ^ 1], and d ^ 1 is the direction back. Each direction has one mesh
+ * on its left hand. Mesh 0 is that of direction 0; of the directions not on it, the lowest is on mesh 1; and so
+ * on. The size of a mesh counts its lines, one that it walks both ways once.
  *
  *   ends     2 * lines places, read.
  *   choice   room for a byte a line, read.
  *   order    room for 2 * lines places. On 0: line numbers, those at vertex 0 clockwise, then those at vertex
- *            1, and so on; a vertex has as many places as it has lines.
+ *            1, and so on. A vertex has as many places as it has lines, so the list of vertex v begins after
+ *            as many places as the vertices below v have lines, all together.
  *   mesh     room for 2 * lines places. On 0: place d is the mesh of direction d.
  *   sizes    room for 2 * lines + 1 places. On 0: place m is the size of mesh m, for as many places as there
  *            are meshes; those beyond stay.
  *
  * Numbers: 0, 2, 3, 4, 5, 6, 8, 10. On any but 0, order, mesh and sizes stay as they were.
- * First count: the number of meshes. Second count: 0. */
+ * First count: the number of meshes. Second count: 0.
+ *
+ * To add up flows round mesh m no walk is needed: add the flow of line k if mesh[2k] is m, and subtract it if
+ * mesh[2k + 1] is m. Where a mesh walks a line both ways, its flow cancels. Taken over all meshes each line is
+ * added once and subtracted once, so the totals of all meshes make 0 and any one of them follows from the rest.
+ * Those are independent: meshes - 1 of them, which is lines - vertices + 1. It is usual to leave out the outer
+ * mesh.
+ *
+ * To walk a mesh, go on from direction d like this. It arrives at v = ends[d ^ 1]. Look for line d / 2 in the
+ * list of v in order, and let k be the line after it, or the first line if it is the last. Leave by direction 2k
+ * if ends[2k] is v, and else by 2k + 1. The walk closes where it began. It turns anticlockwise round a mesh
+ * inside, and clockwise along the outer one. (From mesh alone: go on with the direction of the same mesh that
+ * leaves v. There is only one where the mesh comes to v once; else order has to tell.)
+ *
+ * The outer mesh is the one that has the corner at vertex 0 between the last line of its list and the first. A
+ * walk that arrives by the last leaves by the first: so, with k = order[0], it is the mesh of direction 2k if
+ * ends[2k] is 0, and else of 2k + 1. A lone vertex has mesh 0 alone. On K4 with every back line left, order
+ * begins with 5, 3, 0, line 5 goes from 2 to 0, and mesh[11] is 1: mesh 1 is the outer one. */
 uint64_t cornetariel_draw(size_t vertices, const uint16_t *ends, size_t ends_len, const uint8_t *choice,
                           size_t choice_len, uint16_t *order, size_t order_len, uint16_t *mesh, size_t mesh_len,
                           uint16_t *sizes, size_t sizes_len);
