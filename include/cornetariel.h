@@ -68,8 +68,9 @@
  *
  * Versions
  *
- * A change that breaks programs raises the first number, what is added the second, what is mended the third. A
- * number that a call answers never changes its meaning, in any version. CHANGELOG.md says what each brought.
+ * A change that breaks programs raises the first number of the version, an addition the second, a repair the
+ * third. The numbers that calls answer keep their meaning in every version: a later one may give some of them
+ * less often, or have more of them, but puts no other meaning on any. CHANGELOG.md says what each version brought.
  */
 #ifndef CORNETARIEL_H
 #define CORNETARIEL_H
