@@ -34,10 +34,10 @@
  * buffer needs a room, given at each call below. It may be longer than that; the places beyond what is filled
  * keep what they held.
  *
- * Two things a call cannot check, and they are all that is asked of the caller: that a pointer is one to as many
- * elements of its type as the length says, and that no two buffers of one call overlap. Whatever else is wrong
- * with what is lent is answered with a number. Nothing is read or written behind a pointer whose length is 0, so
- * NULL will do for it: a network without lines has no list of ends and no choice.
+ * Two things a call cannot check, and beside a stack they are all that is asked of the caller: that a pointer
+ * is one to as many elements of its type as the length says, and that no two buffers of one call overlap.
+ * Whatever else is wrong with what is lent is answered with a number. Nothing is read or written behind a
+ * pointer whose length is 0, so NULL will do for it: a lone vertex has no list of ends and no choice.
  *
  * A call takes about half a megabyte of stack at most: 510,000 bytes were measured, for draw on a path through
  * 512 vertices. Half of that is a table of all pairs of vertices. A thread that was given a small stack should
@@ -56,10 +56,11 @@
  * upper end or above that and end below v. One that ends at v itself is no return. The low of a line is the
  * least height at which one of its returns ends; if it has none, the height of v.
  *
- * Two lines e and f that leave one vertex are a fork. It has two groups: the returns of e whose end is higher
- * than the low of f, and the returns of f whose end is higher than the low of e. A return that ends level with
- * the other line's low is in neither. A choice puts each back line on a side, left or right. By the fork rule a
- * group has one side, and the two groups of a fork have different sides. An empty group asks for nothing.
+ * Two different lines e and f that leave one vertex are a fork. It has two groups: the returns of e whose end
+ * is higher than the low of f, and the returns of f whose end is higher than the low of e. A return that ends
+ * level with the other line's low is in neither. A choice puts each back line on a side, left or right. By the
+ * fork rule a group has one side, and the two groups of a fork have different sides. An empty group asks for
+ * nothing.
  *
  * A choice is legal if it obeys the rule of every fork. It is aligned if it is legal and no tree line has two
  * returns on different sides that both end at its low. Where some choice is legal, some choice is aligned, and
@@ -173,7 +174,7 @@ enum cornetariel_sides { CORNETARIEL_LEFT = 0, CORNETARIEL_RIGHT = 1, CORNETARIE
 /* What a step of a ring asks of its line and the next one: the same side or different sides. */
 enum cornetariel_constraints { CORNETARIEL_SAME = 0, CORNETARIEL_DIFFERENT = 1 };
 
-/* orient: what each line is, and how high each vertex stands.
+/* orient: what each line is, and how high each vertex stands, by the search that "Words" above describes.
  *
  *   ends      2 * lines places, read. Its length gives the line count.
  *   kinds     room for a byte a line. On 0: byte k is 0 if line k is a tree line, 1 if it is a back line.
@@ -195,12 +196,11 @@ uint64_t cornetariel_orient(size_t vertices, const uint16_t *ends, size_t ends_l
  *                step, 0 the same side, 1 different sides; the last step's leads back to the first line. On 0
  *                it stays.
  *
- * A ring is a round of two or more back lines, no line twice. The constraint of a step comes from a fork: its
- * line and the next are in one group of it, and to have the same side, or one in each group, and to have
- * different sides. An odd number of steps asks for different sides, so no choice meets them all. The first step
- * has the lowest line of the ring, and the second step the lower of the two lines beside it in the round. A ring
- * of two lines has "same" in its first step. A network may have many rings; the rules leave open which one is
- * written.
+ * A ring is a round of two or more back lines, no line twice. The line of a step and the next one stand in one
+ * group of some fork and have to share a side, or in the two groups of a fork and have to differ. Those that
+ * differ are odd in number, so no choice meets all steps. The first step has the lowest line of the ring, and
+ * the second step the lower of the two lines beside it in the round. A ring of two lines has "same" in its first
+ * step. A network may have many rings; the rules leave open which one is written.
  *
  * Numbers: 0, 2, 3, 4, 5, 6, 7. On 2 to 6 all buffers stay as they were.
  * First count: on 0 the number of back lines, on 7 it is 0. Second count: on 0 it is 0, on 7 the number of
@@ -259,8 +259,8 @@ uint64_t cornetariel_write(size_t vertices, const uint16_t *ends, size_t ends_le
  *   ends     2 * lines places, read.
  *   choice   room for a byte a line, read.
  *   order    room for 2 * lines places. On 0: line numbers, those at vertex 0 clockwise, then those at vertex
- *            1, and so on. A vertex has as many places as it has lines, so the list of vertex v begins after
- *            as many places as the vertices below v have lines, all together.
+ *            1, and so on. A vertex has as many places as it has lines. So the list of vertex v begins at
+ *            the place whose number is how often the list of ends has a number less than v.
  *   mesh     room for 2 * lines places. On 0: place d is the mesh of direction d.
  *   sizes    room for 2 * lines + 1 places. On 0: place m is the size of mesh m, for as many places as there
  *            are meshes; those beyond stay.
