@@ -9,12 +9,15 @@ use lib.ListN.{length}
 use borrow.Author.Tests.{lt-ltb, le-ltb}
 use Rattle.laws.specs.Tests.{either}
 use Rattle.laws.specs.Checks.{check}
+use Rattle.laws.specs.Lists.{at, Past, Kept}
+use Rattle.laws.specs.Dictionary.{First, Next}
 use Rattle.laws.proofs.Cases.{true-false}
 use Rattle.laws.proofs.Tests.{either-first, either-second, either-no}
+use Rattle.laws.proofs.Dictionary.{first-same, next-same}
 use Rattle.network.specs.Network.{Network, network}
-use Rattle.network.specs.Numbers.{refused, done, oversize, odd}
+use Rattle.network.specs.Numbers.{refused, done, oversize, odd, Untouched, triple}
 use Rattle.network.specs.declared.Answer.{Answer}
-use Rattle.network.proofs.Sifting.{refuse-2, refuse-3, refuse-rest}
+use Rattle.network.proofs.Sifting.{refuse-2, refuse-3, refuse-rest, untouched}
 use Rattle.tree.specs.Tree.{Tree, tree-of}
 use Rattle.tree.specs.Returns.{backb}
 use Rattle.tree.specs.Words.{Return}
@@ -32,17 +35,16 @@ use Rattle.fork.specs.Fork.{Constraint}
 use Rattle.fork.specs.Link.{Link, to-top, tops, to-bottom, turned}
 use Rattle.fork.specs.Inside.{Known}
 use Rattle.fork.proofs.Ends.{top-is, high-some}
-use Rattle.groups.specs.Order.{at, First, Next}
-use Rattle.groups.specs.Constraints.{Ring, Obeys}
+use Rattle.groups.specs.Constraints.{Satisfies}
 use Rattle.groups.specs.Groups.{Tables, tables, fitsb}
-use Rattle.groups.specs.Calls.{Past, Reading, Copied, Advanced, Stuck}
+use Rattle.groups.specs.Calls.{Reading, Copied, Advanced, Stuck}
 use Rattle.rings.specs.Rings.{Showing, Shown}
-use Rattle.groups.proofs.Order.{first-same, next-same}
 use Rattle.groups.proofs.Answers.{copied-first, advanced-next, stuck-last, reading}
 use Rattle.groups.proofs.Choosing.{fits-obeys, obeys-fits}
+use Rattle.rings.specs.Ring.{Ring}
 use Rattle.rings.proofs.Showing.{torn, ring-shown}
 use Rattle.choice.specs.Choice.{Drawable, Proper, Outdone}
-use Rattle.choice.specs.Calls.{Kept, cramped-first, Untouched, Chosen, Ringed, FirstChoice}
+use Rattle.choice.specs.Calls.{cramped-first, Chosen, Ringed, FirstChoice}
 use Rattle.ties.specs.Inside.{Closed, Taken, Together, Unkept}
 use Rattle.grouping.specs.Inside.{Sorted, all-kept, one-torn, Grouping}
 use Rattle.grouping.specs.declared.Groups.{Groups}
@@ -113,15 +115,15 @@ module _ (S : Tree) (X : Searched S) (r : Groups) (g : Grouping S r) where
         go : Sorted S t Holds → Together S t × ((b d k : ℕ) → Link S b d k → Closed t b d k)
         go (all-kept q a) = (q, a)
 
-    to-proper : (c : ℕ → ℕ) → Obeys (S .lines) (backb S) (Taken S t) c → Proper S c
+    to-proper : (c : ℕ → ℕ) → Satisfies (S .lines) (backb S) (Taken S t) c → Proper S c
     to-proper = obeys-proper S X t (kept .0) (kept .1)
 
-    from-proper : (c : ℕ → ℕ) → Proper S c → Obeys (S .lines) (backb S) (Taken S t) c
+    from-proper : (c : ℕ → ℕ) → Proper S c → Satisfies (S .lines) (backb S) (Taken S t) c
     from-proper = proper-obeys S X t (kept .0) (kept .1)
 
     pub sorted-first : (choice choice′ : List ℕ) → Copied (S .lines) (r .parity) choice choice′ → First (S .lines) (Proper S) (at choice′)
     sorted-first choice choice′ c =
-        first-same (S .lines) (Obeys (S .lines) (backb S) (Taken S t)) (Proper S) to-proper from-proper (at choice′)
+        first-same (S .lines) (Satisfies (S .lines) (backb S) (Taken S t)) (Proper S) to-proper from-proper (at choice′)
         (copied-first (S .lines) (backb S) (Taken S t) (r .leader) (r .parity) (r .from) (r .to) (kept .0) choice choice′ c)
 
     pub sorted-reading : (choice : List ℕ) → S .lines ≤ length choice → Reading (S .lines) (r .leader) (r .parity) choice
@@ -136,7 +138,7 @@ module _ (S : Tree) (X : Searched S) (r : Groups) (g : Grouping S r) where
     module _ (choice choice′ : List ℕ) (p : Proper S (at choice)) where
       pub sorted-next : Advanced (S .lines) (r .leader) (r .parity) choice choice′ → Next (S .lines) (Proper S) (at choice) (at choice′)
       sorted-next a =
-          next-same (S .lines) (Obeys (S .lines) (backb S) (Taken S t)) (Proper S) to-proper from-proper (at choice) (at choice′)
+          next-same (S .lines) (Satisfies (S .lines) (backb S) (Taken S t)) (Proper S) to-proper from-proper (at choice) (at choice′)
           (advanced-next (S .lines) (backb S) (Taken S t) (r .leader) (r .parity) (r .from) (r .to) (kept .0) choice choice′ (from-proper (at choice) p) a)
 
       pub sorted-last : Stuck (S .lines) (r .leader) choice choice′ → Outdone S (at choice) → ⊥
@@ -188,13 +190,10 @@ module _ (n : ℕ) (ends choice rl rk : List ℕ) (two : Bool) (is-two : two ≡
   net = network n ends
 
   abbrev Nothing : Answer → List ℕ → List ℕ → List ℕ → ℕ → Type 0
-  Nothing a c l k = Untouched choice rl rk a c l k
+  Nothing a c l k = Untouched (triple choice rl rk) a (triple c l k)
 
   abbrev Granted : Answer → List ℕ → List ℕ → List ℕ → Type 0
   Granted a c l k = check (Drawable (tree-in net)) (Chosen net choice rl rk a c l k) (Ringed net choice rl rk a c l k)
-
-  untouched : {a : Answer} {k : ℕ} → a ≡ refused k → Untouched choice rl rk a choice rl rk k
-  untouched e = record { answers = e; same-choice = refl; same-lines = refl; same-kinds = refl }
 
   pub first-2 : two ≡ true → (a : Answer) → a ≡ refused 2 → FirstChoice n ends choice rl rk a choice rl rk
   first-2 t a e = refuse-2 n ends (cramped-first ends choice rl rk) (Nothing a choice rl rk) (Granted a choice rl rk) (sym is-two ∙ t) (untouched e)

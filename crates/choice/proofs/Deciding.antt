@@ -4,13 +4,13 @@ use mathlib.Core.List.{List}
 use mathlib.Core.Path.{_≡_, refl, sym, _∙_}
 use Prim.Native.Nat.{ℕ, _≤_}
 use lib.ListN.{length}
+use Rattle.laws.specs.Lists.{at}
 use Rattle.laws.proofs.Cases.{true-false}
 use Rattle.tree.specs.Tree.{Tree, tree-of}
 use Rattle.tree.specs.Returns.{backb}
 use Rattle.tree.proofs.Searched.{Searched}
 use Rattle.tree.proofs.Grown.{searched}
 use Rattle.fork.specs.Inside.{Known}
-use Rattle.groups.specs.Order.{at}
 use Rattle.groups.specs.Groups.{tables, fitsb}
 use Rattle.groups.specs.Calls.{Reading}
 use Rattle.groups.proofs.Answers.{reading}

@@ -17,9 +17,10 @@ use Rattle.fork.proofs.Rule.{back-yes, back-of}
 use Rattle.fork.proofs.Aligning.{none-legal}
 use Rattle.fork.proofs.Links.{aligned-links, links-aligned}
 use Rattle.fork.proofs.Rings.{Tied, link-tied, ring-step, ring-close}
-use Rattle.groups.specs.Constraints.{Between, More, Obeys, Ring, oddb, ringb}
+use Rattle.groups.specs.Constraints.{Between, More, Satisfies}
 use Rattle.groups.specs.Groups.{Tables}
 use Rattle.groups.proofs.Groups.{conflict}
+use Rattle.rings.specs.Ring.{Ring, oddb, ringb}
 use Rattle.choice.specs.Choice.{Drawable, Proper}
 use Rattle.ties.specs.Inside.{Closed, Taken, Together, Unkept}
 use Rattle.ties.proofs.Tying.{link-back}
@@ -39,7 +40,7 @@ module _ (S : Tree) (X : Searched S) (t : Tables) (g : Together S t) where
   -- All links are obeyed
 
   module _ (all : (b d k : ℕ) → Link S b d k → Closed t b d k) where
-    pub proper-obeys : (c : ℕ → ℕ) → Proper S c → Obeys (S .lines) (backb S) (Taken S t) c
+    pub proper-obeys : (c : ℕ → ℕ) → Proper S c → Satisfies (S .lines) (backb S) (Taken S t) c
     proper-obeys c p =
         record {
           tree = p .no-side;
@@ -47,7 +48,7 @@ module _ (S : Tree) (X : Searched S) (t : Tables) (g : Together S t) where
           kept = λ b d k q. aligned-links S c (p .aligned) b d k (q .0);
         }
 
-    pub obeys-proper : (c : ℕ → ℕ) → Obeys (S .lines) (backb S) (Taken S t) c → Proper S c
+    pub obeys-proper : (c : ℕ → ℕ) → Satisfies (S .lines) (backb S) (Taken S t) c → Proper S c
     obeys-proper c o =
         record {
           no-side = o .tree;

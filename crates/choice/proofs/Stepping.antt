@@ -2,18 +2,19 @@
 use mathlib.Core.Bool.{Bool, true, false}
 use mathlib.Core.List.{List}
 use mathlib.Core.Logic.{inl, inr}
-use mathlib.Core.Path.{_≡_, refl, sym, ap, _∙_, subst}
+use mathlib.Core.Path.{_≡_, sym, ap, _∙_, subst}
 use Prim.Native.Nat.{ℕ, _+_, _-_, _/_, _≤_, _<_}
 use native.Mathlib.Omega.{arith}
 use lib.ListN.{length}
 use borrow.Author.Tests.{lt-ltb, le-ltb}
 use Rattle.laws.specs.Tests.{either}
 use Rattle.laws.specs.Checks.{check}
+use Rattle.laws.specs.Lists.{at}
 use Rattle.laws.proofs.Tests.{either-first, either-second, either-no}
 use Rattle.network.specs.Network.{Network, network}
-use Rattle.network.specs.Numbers.{refused, done, oversize, odd}
+use Rattle.network.specs.Numbers.{refused, done, oversize, odd, Untouched}
 use Rattle.network.specs.declared.Answer.{Answer}
-use Rattle.network.proofs.Sifting.{refuse-2, refuse-3, refuse-rest}
+use Rattle.network.proofs.Sifting.{refuse-2, refuse-3, refuse-rest, untouched}
 use Rattle.tree.specs.Tree.{Tree, tree-of}
 use Rattle.tree.proofs.Searched.{Searched}
 use Rattle.tree.proofs.Grown.{searched}
@@ -22,11 +23,10 @@ use Rattle.search.specs.Orient.{Explored, unsearched, searched as searched-of}
 use Rattle.search.specs.declared.Search.{Search}
 use Rattle.search.proofs.Grows.{grown}
 use Rattle.search.proofs.Calls.{explored}
-use Rattle.groups.specs.Order.{at}
 use Rattle.groups.specs.Groups.{fitsb}
 use Rattle.groups.specs.Calls.{Reading, stepped}
 use Rattle.choice.specs.Choice.{Proper, Outdone}
-use Rattle.choice.specs.Calls.{cramped-next, Unmoved, Stepped, NextChoice}
+use Rattle.choice.specs.Calls.{cramped-next, Stepped, NextChoice}
 use Rattle.grouping.specs.Inside.{Grouping}
 use Rattle.grouping.specs.declared.Groups.{Groups}
 use Rattle.ties.specs.declared.Tie.the-variants.{Holds, Tears}
@@ -41,17 +41,14 @@ module _ (n : ℕ) (ends choice : List ℕ) (two : Bool) (is-two : two ≡ overs
 
   abbrev Granted : Answer → List ℕ → Type 0
   Granted a c =
-      check (Proper (tree-in net) (at choice)) (check (Outdone (tree-in net) (at choice)) (Stepped net choice a c) (Unmoved choice a c 9)) (Unmoved choice a c 8)
-
-  unmoved : {a : Answer} {k : ℕ} → a ≡ refused k → Unmoved choice a choice k
-  unmoved e = record { answers = e; same-choice = refl }
+      check (Proper (tree-in net) (at choice)) (check (Outdone (tree-in net) (at choice)) (Stepped net choice a c) (Untouched choice a c 9)) (Untouched choice a c 8)
 
   pub next-2 : two ≡ true → (a : Answer) → a ≡ refused 2 → NextChoice n ends choice a choice
-  next-2 t a e = refuse-2 n ends (cramped-next ends choice) (Unmoved choice a choice) (Granted a choice) (sym is-two ∙ t) (unmoved e)
+  next-2 t a e = refuse-2 n ends (cramped-next ends choice) (Untouched choice a choice) (Granted a choice) (sym is-two ∙ t) (untouched e)
 
   module _ (not-two : two ≡ false) (three : Bool) (is-three : three ≡ odd (length ends)) where
     next-3 : either (odd (length ends)) (cramped-next ends choice) ≡ true → (a : Answer) → a ≡ refused 3 → NextChoice n ends choice a choice
-    next-3 t a e = refuse-3 n ends (cramped-next ends choice) (Unmoved choice a choice) (Granted a choice) (sym is-two ∙ not-two) t (unmoved e)
+    next-3 t a e = refuse-3 n ends (cramped-next ends choice) (Untouched choice a choice) (Granted a choice) (sym is-two ∙ not-two) t (untouched e)
 
     pub next-odd : three ≡ true → (a : Answer) → a ≡ refused 3 → NextChoice n ends choice a choice
     next-odd t = next-3 (either-first _ _ (sym is-three ∙ t))
@@ -67,8 +64,8 @@ module _ (n : ℕ) (ends choice : List ℕ) (two : Bool) (is-two : two ≡ overs
 
       pub next-refused : (q .number ≡ 0 → ⊥) → (a : Answer) → a ≡ refused (q .number) → NextChoice n ends choice a choice
       next-refused d a e =
-          refuse-rest n ends (cramped-next ends choice) (Unmoved choice a choice) (Granted a choice) enough x
-          (λ k some (u : q ≡ unsearched k). unmoved (e ∙ ap refused (ap (λ (y : Search). y .number) u)))
+          refuse-rest n ends (cramped-next ends choice) (Untouched choice a choice) (Granted a choice) enough x
+          (λ k some (u : q ≡ unsearched k). untouched (e ∙ ap refused (ap (λ (y : Search). y .number) u)))
           (λ (g : q ≡ searched-of (network n ends)). absurd (d (ap (λ (y : Search). y .number) g)))
 
       module _ (z : q .number ≡ 0) (r : Groups) (g′ : Grouping (tree-of n m ends (q .kinds) (q .heights) (q .parents)) r) where
@@ -80,12 +77,12 @@ module _ (n : ℕ) (ends choice : List ℕ) (two : Bool) (is-two : two ≡ overs
 
         grant : (a : Answer) (c : List ℕ) → Granted a c → NextChoice n ends choice a c
         grant a c y =
-            refuse-rest n ends (cramped-next ends choice) (Unmoved choice a c) (Granted a c) enough x
+            refuse-rest n ends (cramped-next ends choice) (Untouched choice a c) (Granted a c) enough x
             (λ j some (u : q ≡ unsearched j). absurd (let w : q .number ≡ j = ap (λ (v : Search). v .number) u in omega arith))
             (λ _. y)
 
         pub next-torn : {b d k : ℕ} → r .tie ≡ Tears b d k → (a : Answer) → a ≡ refused 8 → NextChoice n ends choice a choice
-        next-torn e a is = grant a choice (inr (torn-improper (tree-in net) X r g e (at choice), unmoved is))
+        next-torn e a is = grant a choice (inr (torn-improper (tree-in net) X r g e (at choice), untouched is))
 
         module _ (e : r .tie ≡ Holds) where
           pub next-reading : Reading m (r .leader) (r .parity) choice
@@ -93,7 +90,7 @@ module _ (n : ℕ) (ends choice : List ℕ) (two : Bool) (is-two : two ≡ overs
 
           module _ (fit : Bool) (is-fit : fit ≡ fitsb m (at (r .leader)) (at (r .parity)) (at choice)) where
             pub next-unfit : fit ≡ false → (a : Answer) → a ≡ refused 8 → NextChoice n ends choice a choice
-            next-unfit f a is = grant a choice (inr (sorted-fails (tree-in net) X r g e choice (sym is-fit ∙ f), unmoved is))
+            next-unfit f a is = grant a choice (inr (sorted-fails (tree-in net) X r g e choice (sym is-fit ∙ f), untouched is))
 
             module _ (yes′ : fit ≡ true) (choice′ : List ℕ) (moved : Bool) (step : stepped m (r .leader) (r .parity) choice choice′ moved) where
               proper : Proper (tree-in net) (at choice)
@@ -105,7 +102,7 @@ module _ (n : ℕ) (ends choice : List ℕ) (two : Bool) (is-two : two ≡ overs
                   go : stepped m (r .leader) (r .parity) choice choice′ false → NextChoice n ends choice a choice′
                   go s =
                       grant a choice′
-                      (inl (proper, inr (sorted-last (tree-in net) X r g e choice choice′ proper s, record { answers = is; same-choice = s .same })))
+                      (inl (proper, inr (sorted-last (tree-in net) X r g e choice choice′ proper s, record { answers = is; same = s .same })))
 
               pub next-done : moved ≡ true → (a : Answer) → a ≡ done (m + 1 - n) 0 → length choice′ ≡ length choice → NextChoice n ends choice a choice′
               next-done f a is long = go (rw f at step)

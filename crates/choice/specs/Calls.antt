@@ -7,20 +7,16 @@ use lib.Dec.{ltb}
 use lib.ListN.{length}
 use Rattle.laws.specs.Tests.{either}
 use Rattle.laws.specs.Checks.{check}
+use Rattle.laws.specs.Lists.{at, Kept}
+use Rattle.laws.specs.Dictionary.{First, Next}
 use Rattle.network.specs.Network.{Network, network}
-use Rattle.network.specs.Numbers.{refused, done, Checked}
+use Rattle.network.specs.Numbers.{done, Checked, Untouched, triple}
 use Rattle.network.specs.declared.Answer.{Answer}
 use Rattle.search.specs.Machine.{tree-in}
 use Rattle.search.specs.Orient.{back-lines}
 use Rattle.fork.specs.Fork.{Constraint}
-use Rattle.groups.specs.Order.{at, First, Next}
-use Rattle.groups.specs.Constraints.{Ring}
+use Rattle.rings.specs.Ring.{Ring}
 use Rattle.choice.specs.Choice.{Drawable, Proper, Outdone}
-
--- A buffer whose first n places may have changed, and nothing else.
-pub record Kept (n : ℕ) (old new : List ℕ) : Type 0 where
-  pub long : length new ≡ length old
-  pub past : (j : ℕ) → n ≤ j → at new j ≡ at old j
 
 -- First choice
 
@@ -28,13 +24,6 @@ pub record Kept (n : ℕ) (old new : List ℕ) : Type 0 where
 unfoldable pub cramped-first : List ℕ → List ℕ → List ℕ → List ℕ → Bool
 cramped-first ends choice lines kinds =
     either (ltb (length choice) (length ends / 2)) (either (ltb (length lines) (length ends / 2)) (ltb (length kinds) (length ends / 2)))
-
--- A refusal answers its number and changes nothing.
-pub record Untouched (choice lines kinds : List ℕ) (r : Answer) (choice′ lines′ kinds′ : List ℕ) (k : ℕ) : Type 0 where
-  pub answers : r ≡ refused k
-  pub same-choice : choice′ ≡ choice
-  pub same-lines : lines′ ≡ lines
-  pub same-kinds : kinds′ ≡ kinds
 
 -- With 0, the number of back lines and the first aligned choice; no ring is written.
 pub record Chosen (net : Network) (choice lines kinds : List ℕ) (r : Answer) (choice′ lines′ kinds′ : List ℕ) : Type 0 where
@@ -57,7 +46,7 @@ pub record Ringed (net : Network) (choice lines kinds : List ℕ) (r : Answer) (
 -- 7 exactly where no choice obeys the fork rule.
 abbrev pub FirstChoice : ℕ → List ℕ → List ℕ → List ℕ → List ℕ → Answer → List ℕ → List ℕ → List ℕ → Type 0
 FirstChoice n ends choice lines kinds r choice′ lines′ kinds′ =
-    Checked n ends (cramped-first ends choice lines kinds) (Untouched choice lines kinds r choice′ lines′ kinds′)
+    Checked n ends (cramped-first ends choice lines kinds) (Untouched (triple choice lines kinds) r (triple choice′ lines′ kinds′))
     (check (Drawable (tree-in (network n ends)))
     (Chosen (network n ends) choice lines kinds r choice′ lines′ kinds′)
     (Ringed (network n ends) choice lines kinds r choice′ lines′ kinds′))
@@ -68,10 +57,6 @@ FirstChoice n ends choice lines kinds r choice′ lines′ kinds′ =
 unfoldable pub cramped-next : List ℕ → List ℕ → Bool
 cramped-next ends choice = ltb (length choice) (length ends / 2)
 
-pub record Unmoved (choice : List ℕ) (r : Answer) (choice′ : List ℕ) (k : ℕ) : Type 0 where
-  pub answers : r ≡ refused k
-  pub same-choice : choice′ ≡ choice
-
 -- With 0, the number of back lines and the aligned choice that comes next.
 pub record Stepped (net : Network) (choice : List ℕ) (r : Answer) (choice′ : List ℕ) : Type 0 where
   pub answers : r ≡ done (back-lines net) 0
@@ -81,7 +66,7 @@ pub record Stepped (net : Network) (choice : List ℕ) (r : Answer) (choice′ :
 -- 8 exactly where the lent choice is not aligned or not written as it should be, 9 exactly where none comes later.
 abbrev pub NextChoice : ℕ → List ℕ → List ℕ → Answer → List ℕ → Type 0
 NextChoice n ends choice r choice′ =
-    Checked n ends (cramped-next ends choice) (Unmoved choice r choice′)
+    Checked n ends (cramped-next ends choice) (Untouched choice r choice′)
     (check (Proper (tree-in (network n ends)) (at choice))
-    (check (Outdone (tree-in (network n ends)) (at choice)) (Stepped (network n ends) choice r choice′) (Unmoved choice r choice′ 9))
-    (Unmoved choice r choice′ 8))
+    (check (Outdone (tree-in (network n ends)) (at choice)) (Stepped (network n ends) choice r choice′) (Untouched choice r choice′ 9))
+    (Untouched choice r choice′ 8))

@@ -2,11 +2,11 @@
 use mathlib.Core.Bool.{false}
 use mathlib.Core.Path.{_≡_}
 use Prim.Native.Nat.{ℕ, _<_}
+use Rattle.laws.specs.Dictionary.{Before}
 use Rattle.side.specs.Sides.{none}
 use Rattle.tree.specs.Tree.{Tree}
 use Rattle.tree.specs.Returns.{backb}
 use Rattle.fork.specs.Fork.{Legal, Aligned}
-use Rattle.groups.specs.Order.{Before}
 
 -- Some choice obeys the fork rule.
 abbrev pub Drawable : Tree → Type 0

@@ -3,13 +3,14 @@
 // `first` and `next` are the calls; their contracts cite specs/Calls.antt. `is_aligned` is the question that draw asks too.
 ghost use Prim.Native.Nat.{ℕ, _≤_};
 ghost use lib.ListN.{length};
+ghost use Rattle.laws.specs.Lists.{at};
 ghost use Rattle.tree.specs.Tree.{«tree-of»};
 ghost use Rattle.fork.specs.Inside.{Known};
-ghost use Rattle.groups.specs.Order.{at};
-ghost use Rattle.grouping.specs.Inside.{TabledIn};
+ghost use Rattle.grouping.specs.Inside.{TabledIn, Grouping};
 ghost use Rattle.choice.specs.Choice.{Proper};
 ghost use Rattle.choice.specs.Calls.{FirstChoice, NextChoice};
 ghost use Rattle.choice.specs.Inside.{Decides};
+use grouping::Groups;
 use network::Answer;
 use ties::Tie;
 
@@ -49,33 +50,11 @@ pub fn first(
     let kinds = found.kinds;
     let heights = found.heights;
     let parents = found.parents;
-    let returns = returns::forked(vertices, lines, ends, &kinds, &heights, &parents);
-    let sources = returns.sources;
-    let stops = returns.ends;
-    let lows = returns.lows;
-    let highs = returns.highs;
-    let rivals = returns.rivals;
-    let tops = returns.tops;
-    let bottoms = returns.bottoms;
-    let sorted = grouping::grouped(
-        vertices,
-        lines,
-        ends,
-        &kinds,
-        &heights,
-        &parents,
-        &sources,
-        &stops,
-        &lows,
-        &highs,
-        &rivals,
-        &tops,
-        &bottoms,
-    );
-    let tie = sorted.tie;
-    let parity = sorted.parity;
-    let from = sorted.from;
-    let to = sorted.to;
+    let tied = sorted(vertices, lines, ends, &kinds, &heights, &parents);
+    let tie = tied.tie;
+    let parity = tied.parity;
+    let from = tied.from;
+    let to = tied.to;
     match tie {
         Tie::Holds => {
             groups::choice::first(lines, &parity, choice);
@@ -124,32 +103,10 @@ pub fn next(vertices: usize, ends: &[u16], choice: &mut [u8]) -> Answer
     let kinds = found.kinds;
     let heights = found.heights;
     let parents = found.parents;
-    let returns = returns::forked(vertices, lines, ends, &kinds, &heights, &parents);
-    let sources = returns.sources;
-    let stops = returns.ends;
-    let lows = returns.lows;
-    let highs = returns.highs;
-    let rivals = returns.rivals;
-    let tops = returns.tops;
-    let bottoms = returns.bottoms;
-    let sorted = grouping::grouped(
-        vertices,
-        lines,
-        ends,
-        &kinds,
-        &heights,
-        &parents,
-        &sources,
-        &stops,
-        &lows,
-        &highs,
-        &rivals,
-        &tops,
-        &bottoms,
-    );
-    let tie = sorted.tie;
-    let leader = sorted.leader;
-    let parity = sorted.parity;
+    let tied = sorted(vertices, lines, ends, &kinds, &heights, &parents);
+    let tie = tied.tie;
+    let leader = tied.leader;
+    let parity = tied.parity;
     if let Tie::Tears(_, _, _) = tie {
         return Answer::refused(8);
     }
@@ -160,6 +117,43 @@ pub fn next(vertices: usize, ends: &[u16], choice: &mut [u8]) -> Answer
         return Answer::refused(9);
     }
     Answer::done(lines + 1 - vertices, 0)
+}
+
+// The groups of the back lines, from the tables of a finished search.
+fn sorted(
+    vertices: usize,
+    lines: usize,
+    ends: &[u16],
+    kinds: &[u8; 2048],
+    heights: &[u16; 512],
+    parents: &[u16; 512],
+) -> Groups
+    requires { ⌜ Known vertices lines (now ends) (now kinds) (now heights) (now parents) ⌝ }
+    ensures { λ r. ⌜ Grouping (tree-of vertices lines (now (ends .entry)) (now (kinds .entry)) (now (heights .entry)) (now (parents .entry))) r ⌝ }
+{
+    let returns = returns::forked(vertices, lines, ends, kinds, heights, parents);
+    let sources = returns.sources;
+    let stops = returns.ends;
+    let lows = returns.lows;
+    let highs = returns.highs;
+    let rivals = returns.rivals;
+    let tops = returns.tops;
+    let bottoms = returns.bottoms;
+    grouping::grouped(
+        vertices,
+        lines,
+        ends,
+        kinds,
+        heights,
+        parents,
+        &sources,
+        &stops,
+        &lows,
+        &highs,
+        &rivals,
+        &tops,
+        &bottoms,
+    )
 }
 
 // Whether a lent choice is aligned, and written as it should be, given what each line's returns are like.

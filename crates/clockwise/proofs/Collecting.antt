@@ -9,6 +9,7 @@ use lib.Dec.{eqb}
 use lib.ListN.{length, getD, take, replicate, length-replicate}
 use lib.Seq.{length-take-le, getD-take}
 use Rattle.laws.specs.Counting.{many, count}
+use Rattle.laws.specs.Lists.{at}
 use Rattle.laws.proofs.Cases.{cases, eq-or}
 use Rattle.laws.proofs.Lists.{All, all-map, all-many}
 use Rattle.laws.proofs.Places.{many-at}
@@ -18,23 +19,23 @@ use Rattle.tree.specs.Returns.{returns}
 use Rattle.tree.specs.Words.{BackLine}
 use Rattle.fork.specs.Ends.{top}
 use Rattle.fans.specs.Fan.{side-of}
-use Rattle.fans.specs.Chains.{table, Chained, Sorted, fan-in}
+use Rattle.fans.specs.Chains.{ListsChained, ByRank, fan-in}
 use Rattle.fans.specs.Nesting.{Tabulated, rank-in, side-in}
 use Rattle.clockwise.specs.Order.{discovered}
-use Rattle.clockwise.specs.Walks.{out-in, Stem, Setting-out, Walked}
+use Rattle.clockwise.specs.Walks.{out-in, Stem, Setting-out, WalkedBack}
 use Rattle.clockwise.specs.Laying.{Groupable}
 use Rattle.clockwise.specs.Ordering.{Orderable}
 use Rattle.clockwise.proofs.Discovered.{Over, over, once}
 use Rattle.clockwise.proofs.Ranking.{order-searched, side-is, out-fanned}
 
 module _ {n m : ℕ} {ends kinds heights parents sources lows highs tops choice : List ℕ} (P : Orderable n m ends kinds heights parents sources lows highs tops choice)
-    {ranks : List ℕ} (R : Tabulated (rank-in lows highs) m ranks) {sorted : List ℕ} (Q : Sorted m ranks sorted)
-    {sides : List ℕ} (D : Tabulated (side-in m kinds tops choice) m sides) {heads nexts : List ℕ} (C : Chained heads nexts (fan-in m sorted sources sides)) where
+    {ranks : List ℕ} (R : Tabulated (rank-in lows highs) m ranks) {sorted : List ℕ} (Q : ByRank m ranks sorted)
+    {sides : List ℕ} (D : Tabulated (side-in m kinds tops choice) m sides) {heads nexts : List ℕ} (C : ListsChained heads nexts (fan-in m sorted sources sides)) where
   abbrev S : Tree
   S = tree-of n m ends kinds heights parents
 
   abbrev side : ℕ → ℕ
-  side = table choice
+  side = at choice
 
   -- all back lines, in the order of their discovery
   abbrev all-found : List ℕ
@@ -68,7 +69,7 @@ module _ {n m : ℕ} {ends kinds heights parents sources lows highs tops choice 
       }
 
   module _ {count : ℕ} {path found stems : List ℕ}
-      (W : Walked (tree-of n m ends kinds heights parents) (out-in heads nexts) 0 0 (replicate {A = ℕ} 512 0) (replicate {A = ℕ} 2048 0) count path found stems) where
+      (W : WalkedBack (tree-of n m ends kinds heights parents) (out-in heads nexts) 0 0 (replicate {A = ℕ} 512 0) (replicate {A = ℕ} 2048 0) count path found stems) where
     pub found-is : take count found ≡ discovered (tree-of n m ends kinds heights parents) (out-in heads nexts) n 0
     found-is = W .appended .written
 

@@ -15,7 +15,7 @@ use Rattle.laws.proofs.Places.{place, place-in, at-place, place-at, many-at, ma
 use Rattle.laws.proofs.Lengths.{gather-long}
 use Rattle.network.specs.Network.{Network}
 use Rattle.network.specs.Inside.{Fit}
-use Rattle.meshes.specs.Meshes.{leave, either-way}
+use Rattle.meshes.specs.Meshes.{leave-by, either-way}
 use Rattle.meshes.specs.Inside.{Whole, every}
 use Rattle.meshes.proofs.Directions.{leave-half, leave-one, leave-from, from-end, from-leaves}
 use Rattle.clockwise.specs.Order.{flat}
@@ -43,7 +43,7 @@ module _ (net : Network) (fit : Fit net) (live : ℕ → Bool) (order : ℕ → 
 
   -- the directions that leave v, clockwise; and all of them
   abbrev ways : ℕ → List ℕ
-  ways v = map (leave ends v) (order v)
+  ways v = map (leave-by ends v) (order v)
 
   abbrev all-ways : List ℕ
   all-ways = gather ways (upto n)
@@ -51,8 +51,8 @@ module _ (net : Network) (fit : Fit net) (live : ℕ → Bool) (order : ℕ → 
   -- a direction does not leave another vertex
   elsewhere : (d v : ℕ) → v < n → (v ≡ getD ends d 0 → ⊥) → many d (ways v) ≡ 0
   elsewhere d v h apart =
-      many-map-out (leave ends v) d (order v)
-      (all-members (λ k. leave ends v k ≡ d → ⊥) (order v)
+      many-map-out (leave-by ends v) d (order v)
+      (all-members (λ k. leave-by ends v k ≡ d → ⊥) (order v)
       (λ k g e. apart (sym (leave-from ends v k (whole .only v k h g .2)) ∙ ap (λ (x : ℕ). getD ends x 0) e)))
 
   way-once : (d : ℕ) → In (2 * m) (either-way live) d → many d all-ways ≡ 1
@@ -61,15 +61,15 @@ module _ (net : Network) (fit : Fit net) (live : ℕ → Bool) (order : ℕ → 
       let h = fit .ends-in d (w .below) in
       gather-one d ways n v h (λ u g apart. elsewhere d u g apart)
       ∙ ap (λ (x : ℕ). many x (ways v)) (sym (from-leaves net fit d (w .below)))
-      ∙ many-map (leave ends v) (leave-one ends v) (d / 2) (order v)
+      ∙ many-map (leave-by ends v) (leave-one ends v) (d / 2) (order v)
       ∙ whole .holds v (d / 2) h (let b = w .below in omega arith) (w .yes) (from-end net fit d)
 
   way-only : (d : ℕ) → (In (2 * m) (either-way live) d → ⊥) → many d all-ways ≡ 0
   way-only d no-way =
       gather-none d ways n
       (λ v h.
-      many-map-out (leave ends v) d (order v)
-      (all-members (λ k. leave ends v k ≡ d → ⊥) (order v)
+      many-map-out (leave-by ends v) d (order v)
+      (all-members (λ k. leave-by ends v k ≡ d → ⊥) (order v)
       (λ k g e.
       let q = whole .only v k h g in
       let half : k ≡ d / 2 = sym (leave-half ends v k) ∙ ap (λ (x : ℕ). x / 2) e in
@@ -88,7 +88,7 @@ module _ (net : Network) (fit : Fit net) (live : ℕ → Bool) (order : ℕ → 
 
   pub flat-long : length (flat n order) ≡ count (either-way live) (2 * m)
   flat-long =
-      gather-long order ways (upto n) (λ v. sym (length-map (order v) (leave ends v)))
+      gather-long order ways (upto n) (λ v. sym (length-map (order v) (leave-by ends v)))
       ∙ sym (count-all (length all-ways))
       ∙ count-eq (λ i d. getD all-ways i 0 ≡ d) (λ d i. getD all-ways i 0 ≡ d) (λ i. true) (either-way live) (length all-ways) (2 * m)
       (λ i h t. let q = member (getD all-ways i 0) (many-at 0 all-ways i h) in (getD all-ways i 0, q .below, q .yes, refl))

@@ -17,13 +17,13 @@ use Rattle.laws.proofs.Lists.{keep-nil}
 use Rattle.laws.proofs.Occurring.{many-append, many-reverse, many-keep-yes, many-keep-no}
 use Rattle.laws.proofs.Lengths.{length-keep}
 use Rattle.laws.proofs.Keeping.{front-yes, front-no}
-use Rattle.fans.specs.Chains.{Chained}
+use Rattle.fans.specs.Chains.{ListsChained}
 use Rattle.fans.proofs.Hanging.{chained-hang, chained-none}
 use Rattle.clockwise.specs.Laying.{Groupable, group-of, groups-in}
 
 pub record Grouping (count : ℕ) (found stems sides heads nexts : List ℕ) (i : ℕ) : Type 0 where
   pub upto : i ≤ count
-  pub chained : Chained heads nexts (groups-in i found stems sides)
+  pub chained : ListsChained heads nexts (groups-in i found stems sides)
 
 -- what is known of the line at place i
 pub record Member (stems sides : List ℕ) (b : ℕ) : Type 0 where
@@ -80,5 +80,5 @@ module _ {count : ℕ} {found stems sides : List ℕ} (F : Groupable count found
             ap (many b) (split-at (take count found) i 0 (omega arith) ∙ ap (λ (y : ℕ). take i (take count found) ++ (y ∷ r)) x-is) ∙ many-append b (take i (take count found)) (b ∷ r) in
             ap (many b) (sym (take-take i count found (omega arith))) ∙ omega (arith, F .each-once b, many-here b b r refl)
 
-  pub grouping-done : {heads nexts : List ℕ} {i : ℕ} → Grouping count found stems sides heads nexts i → count ≤ i → Chained heads nexts (groups-in count found stems sides)
-  grouping-done {heads} {nexts} {i} G h = let e : i ≡ count = omega (arith, G .upto) in subst (λ (y : ℕ). Chained heads nexts (groups-in y found stems sides)) e (G .chained)
+  pub grouping-done : {heads nexts : List ℕ} {i : ℕ} → Grouping count found stems sides heads nexts i → count ≤ i → ListsChained heads nexts (groups-in count found stems sides)
+  grouping-done {heads} {nexts} {i} G h = let e : i ≡ count = omega (arith, G .upto) in subst (λ (y : ℕ). ListsChained heads nexts (groups-in y found stems sides)) e (G .chained)

@@ -10,7 +10,7 @@ use lib.ListN.{length, getD, take, replicate}
 use borrow.Author.Tests.{eq-eqb, ne-eqb}
 use Rattle.laws.specs.Tests.{both}
 use Rattle.laws.specs.Counting.{count}
-use Rattle.laws.specs.Lists.{keep, upto}
+use Rattle.laws.specs.Lists.{keep, upto, at}
 use Rattle.laws.specs.Sorting.{gather}
 use Rattle.laws.proofs.Cases.{cases, bool, eq-or}
 use Rattle.laws.proofs.Tests.{both-yes, both-no-first, both-no-second}
@@ -23,11 +23,11 @@ use Rattle.tree.specs.Tree.{Tree, tree-of}
 use Rattle.tree.specs.Words.{BackLine, Leaves}
 use Rattle.tree.proofs.Searched.{Searched}
 use Rattle.fans.specs.Fan.{is-left, is-right, fan}
-use Rattle.fans.specs.Chains.{table, Chained, Sorted, fan-in}
+use Rattle.fans.specs.Chains.{ListsChained, ByRank, fan-in}
 use Rattle.fans.specs.Nesting.{Tabulated, rank-in, side-in}
 use Rattle.fans.proofs.Hanging.{chained-list, chained-as}
 use Rattle.clockwise.specs.Order.{discovered, incoming, beside, clockwise, order-at, flat}
-use Rattle.clockwise.specs.Walks.{Fanned, out-in, Walked}
+use Rattle.clockwise.specs.Walks.{Fanned, out-in, WalkedBack}
 use Rattle.clockwise.specs.Laying.{group-of, groups-in, item-in, first-in, lines-at, Layable, Laid-out}
 use Rattle.clockwise.specs.Ordering.{Orderable}
 use Rattle.clockwise.proofs.Leaving.{fanned}
@@ -51,22 +51,22 @@ discovered-agree S X out out′ O same (suc k) v h =
     ∙ ap (gather (by-way S out′ k)) (same v h)
 
 module _ {n m : ℕ} {ends kinds heights parents sources lows highs tops choice : List ℕ} (P : Orderable n m ends kinds heights parents sources lows highs tops choice)
-    {ranks : List ℕ} (R : Tabulated (rank-in lows highs) m ranks) {sorted : List ℕ} (Q : Sorted m ranks sorted)
-    {sides : List ℕ} (D : Tabulated (side-in m kinds tops choice) m sides) {heads nexts : List ℕ} (C : Chained heads nexts (fan-in m sorted sources sides))
+    {ranks : List ℕ} (R : Tabulated (rank-in lows highs) m ranks) {sorted : List ℕ} (Q : ByRank m ranks sorted)
+    {sides : List ℕ} (D : Tabulated (side-in m kinds tops choice) m sides) {heads nexts : List ℕ} (C : ListsChained heads nexts (fan-in m sorted sources sides))
     {count : ℕ} {path found stems : List ℕ}
-    (W : Walked (tree-of n m ends kinds heights parents) (out-in heads nexts) 0 0 (replicate {A = ℕ} 512 0) (replicate {A = ℕ} 2048 0) count path found stems)
-    {groups after : List ℕ} (G : Chained groups after (groups-in count found stems sides)) where
+    (W : WalkedBack (tree-of n m ends kinds heights parents) (out-in heads nexts) 0 0 (replicate {A = ℕ} 512 0) (replicate {A = ℕ} 2048 0) count path found stems)
+    {groups after : List ℕ} (G : ListsChained groups after (groups-in count found stems sides)) where
   abbrev S : Tree
   S = tree-of n m ends kinds heights parents
 
   abbrev side : ℕ → ℕ
-  side = table choice
+  side = at choice
 
   -- all back lines, in the order of their discovery
   abbrev all-found : List ℕ
   all-found = discovered (tree-of n m ends kinds heights parents) (out-in heads nexts) n 0
 
-  group-chained : Chained groups after (out-in groups after)
+  group-chained : ListsChained groups after (out-in groups after)
   group-chained =
       chained-as groups after (groups-in count found stems sides) G (out-in groups after) (λ g h. sym (chained-list groups after (groups-in count found stems sides) G g h))
 
@@ -93,10 +93,10 @@ module _ {n m : ℕ} {ends kinds heights parents sources lows highs tops choice 
           (λ j. let j′ : x ≢ s = j in ne-eqb (2 * t + x) (2 * e + s) (λ k. omega arith) ∙ sym (both-no-second (eqb t e) y (sym z ∙ ne-eqb x s j))))
           (λ i. let i′ : t ≢ e = i in ne-eqb (2 * t + x) (2 * e + s) (λ k. omega arith) ∙ sym (both-no-first (eqb t e) y (ne-eqb t e i)))
 
-  left-same : (b : ℕ) → BackLine (tree-of n m ends kinds heights parents) b → eqb (getD sides b 0) left ≡ is-left (table choice) b
+  left-same : (b : ℕ) → BackLine (tree-of n m ends kinds heights parents) b → eqb (getD sides b 0) left ≡ is-left (at choice) b
   left-same b l = ap (λ (x : ℕ). eqb x left) (back-side P R Q D C W b l)
 
-  right-same : (b : ℕ) → BackLine (tree-of n m ends kinds heights parents) b → eqb (getD sides b 0) right ≡ is-right (table choice) b
+  right-same : (b : ℕ) → BackLine (tree-of n m ends kinds heights parents) b → eqb (getD sides b 0) right ≡ is-right (at choice) b
   right-same b l =
       ap (λ (x : ℕ). eqb x right) (back-side P R Q D C W b l)
       ∙ cases (eq-or (getD choice b 0) 0)
@@ -108,7 +108,7 @@ module _ {n m : ℕ} {ends kinds heights parents sources lows highs tops choice 
 
   -- the company of a line
   item-is : (v e : ℕ) → v < n → Leaves (tree-of n m ends kinds heights parents) v e
-      → item-in groups after e ≡ beside (tree-of n m ends kinds heights parents) (fan (tree-of n m ends kinds heights parents) (table choice)) (table choice) v e
+      → item-in groups after e ≡ beside (tree-of n m ends kinds heights parents) (fan (tree-of n m ends kinds heights parents) (at choice)) (at choice) v e
   unfolding beside incoming
   item-is v e h le =
       let lefts = group-is left e (is-left side) (omega arith) (le .line .below) left-same in
@@ -133,7 +133,7 @@ module _ {n m : ℕ} {ends kinds heights parents sources lows highs tops choice 
       ∙ (rw (keep-nil (is-left side), keep-nil (is-right side)))
       ∙ sym (ap (λ (b : Bool). cond b A (e ∷ [])) t))
 
-  lists-are : (v : ℕ) → v < n → lines-at heights parents heads nexts groups after v ≡ order-at (tree-of n m ends kinds heights parents) (table choice) v
+  lists-are : (v : ℕ) → v < n → lines-at heights parents heads nexts groups after v ≡ order-at (tree-of n m ends kinds heights parents) (at choice) v
   unfolding clockwise
   lists-are v h =
       let F = fan S side in
@@ -142,7 +142,7 @@ module _ {n m : ℕ} {ends kinds heights parents sources lows highs tops choice 
       (all-map (Leaves S v) (λ e. item-in groups after e ≡ beside S F side v e) (out-in heads nexts v) (λ e le. item-is v e h le) (out-fanned P R Q D C .leaves v h))
       ∙ ap (gather (beside S F side v)) (out-is P R Q D C v (omega (arith, P .few-vertices))))
 
-  all-long : length (flat n (order-at (tree-of n m ends kinds heights parents) (table choice))) ≡ 2 * m
+  all-long : length (flat n (order-at (tree-of n m ends kinds heights parents) (at choice))) ≡ 2 * m
   all-long = flat-full (network-of n m ends) (order-fits P) (S .live) (order-at S side) (order-whole P) (all-live P)
 
   pub order-layable : Layable n heights parents heads nexts groups after
@@ -162,7 +162,7 @@ module _ {n m : ℕ} {ends kinds heights parents sources lows highs tops choice 
       }
 
   pub order-done : {order starts : List ℕ} → Laid-out n (lines-at heights parents heads nexts groups after) order starts
-      → Laid-out n (order-at (tree-of n m ends kinds heights parents) (table choice)) order starts
+      → Laid-out n (order-at (tree-of n m ends kinds heights parents) (at choice)) order starts
   order-done {order} {starts} L =
       let same : (v : ℕ) → v ≤ n → gather (lines-at heights parents heads nexts groups after) (upto v) ≡ gather (order-at S side) (upto v) =
       λ v h. gather-upto (lines-at heights parents heads nexts groups after) (order-at S side) n v h lists-are in

@@ -9,6 +9,7 @@ use lib.Dec.{ltb}
 use lib.ListN.{length, getD}
 use borrow.Author.Tests.{eq-eqb, ne-eqb, lt-ltb, le-ltb}
 use Rattle.laws.specs.Counting.{many, bit}
+use Rattle.laws.specs.Lists.{at}
 use Rattle.laws.proofs.Cases.{cases, bool, eq-or}
 use Rattle.laws.proofs.Tests.{least-none}
 use Rattle.laws.proofs.Counting.{many-nil}
@@ -27,8 +28,8 @@ use Rattle.fork.proofs.Ends.{highest-of, top-first}
 use Rattle.meshes.specs.Inside.{Whole}
 use Rattle.meshes.proofs.Directions.{parity}
 use Rattle.fans.specs.Fan.{side-of, rank, fan}
-use Rattle.fans.specs.Chains.{table, Chained, Ranked, Sorted, Fannable, fan-in}
-use Rattle.fans.specs.Nesting.{Tabulated, rank-of, rank-in, Rankable, side-in, Sidable}
+use Rattle.fans.specs.Chains.{ListsChained, HasRanks, ByRank, Fannable, fan-in}
+use Rattle.fans.specs.Nesting.{Tabulated, rank-of, rank-in, Nestable, side-in, Sidable}
 use Rattle.fans.proofs.Hanging.{chained-list, chained-as}
 use Rattle.fans.proofs.Nesting.{sorted-once, sorted-in, fan-is}
 use Rattle.clockwise.specs.Order.{order-at}
@@ -64,7 +65,7 @@ module _ {n m : ℕ} {ends kinds heights parents sources lows highs tops choice 
   S = tree-of n m ends kinds heights parents
 
   abbrev side : ℕ → ℕ
-  side = table choice
+  side = at choice
 
   pub order-searched : Searched (tree-of n m ends kinds heights parents)
   order-searched = searched n m ends kinds heights parents (P .grown)
@@ -75,7 +76,7 @@ module _ {n m : ℕ} {ends kinds heights parents sources lows highs tops choice 
   a-line : (k : ℕ) → k < m → Line (tree-of n m ends kinds heights parents) k
   a-line k h = record { below = h; yes = all-live k h }
 
-  pub order-whole : Whole (network-of n m ends) (tree-of n m ends kinds heights parents .live) (order-at (tree-of n m ends kinds heights parents) (table choice))
+  pub order-whole : Whole (network-of n m ends) (tree-of n m ends kinds heights parents .live) (order-at (tree-of n m ends kinds heights parents) (at choice))
   order-whole = drawn-whole n m ends kinds heights parents (P .grown) side
 
   low-small : (k : ℕ) → k < m → getD lows k 0 < 512
@@ -98,7 +99,7 @@ module _ {n m : ℕ} {ends kinds heights parents sources lows highs tops choice 
           (λ e. let q : 2 * (i / 2) ≡ i = omega arith in subst (λ (x : ℕ). getD ends x 0 < n) q (P .grown .first-in (i / 2) (omega arith)))
           (λ e. let q : 2 * (i / 2) + 1 ≡ i = omega arith in subst (λ (x : ℕ). getD ends x 0 < n) q (P .grown .second-in (i / 2) (omega arith)))
 
-  pub order-rankable : Rankable m lows highs
+  pub order-rankable : Nestable m lows highs
   order-rankable = record { few = P .few-lines; lows-long = P .lows-long; highs-long = P .highs-long; small = low-small }
 
   pub order-sidable : Sidable m kinds tops choice
@@ -116,11 +117,11 @@ module _ {n m : ℕ} {ends kinds heights parents sources lows highs tops choice 
         bit-le true = omega arith
         bit-le false = omega arith
 
-    pub order-ranked : Ranked m ranks
+    pub order-ranked : HasRanks m ranks
     order-ranked = record { few = P .few-lines; ranks-long = omega (arith, R .long, P .few-lines); small = rank-small }
 
-    module _ {sorted : List ℕ} (Q : Sorted m ranks sorted) {sides : List ℕ} (D : Tabulated (side-in m kinds tops choice) m sides) where
-      pub side-is : (k : ℕ) → k < m → getD sides k 0 ≡ side-of (tree-of n m ends kinds heights parents) (table choice) k
+    module _ {sorted : List ℕ} (Q : ByRank m ranks sorted) {sides : List ℕ} (D : Tabulated (side-in m kinds tops choice) m sides) where
+      pub side-is : (k : ℕ) → k < m → getD sides k 0 ≡ side-of (tree-of n m ends kinds heights parents) (at choice) k
       unfolding side-of
       side-is k h =
           D .each k h
@@ -130,7 +131,7 @@ module _ {n m : ℕ} {ends kinds heights parents sources lows highs tops choice 
           (λ z. rw (eq-eqb (length (returns S k)) 0 z, le-ltb (top S k) m (omega (arith, top-none S k z))))
           (λ d. rw (ne-eqb (length (returns S k)) 0 d, lt-ltb (top S k) m (top-some S k d))))
 
-      fans-are : (v : ℕ) → fan-in m sorted sources sides v ≡ fan (tree-of n m ends kinds heights parents) (table choice) v
+      fans-are : (v : ℕ) → fan-in m sorted sources sides v ≡ fan (tree-of n m ends kinds heights parents) (at choice) v
       fans-are = fan-is S side ranks sorted sources sides all-live rank-is rank-small (P .sources-are) side-is (Q .in-order)
 
       pub order-fannable : Fannable m sorted sources sides
@@ -145,8 +146,8 @@ module _ {n m : ℕ} {ends kinds heights parents sources lows highs tops choice 
             sources-in = λ k h. omega (arith, P .sources-are k h, order-searched .source-in k (a-line k h), P .few-vertices);
           }
 
-      module _ {heads nexts : List ℕ} (C : Chained heads nexts (fan-in m sorted sources sides)) where
-        pub out-is : (v : ℕ) → v < 4096 → out-in heads nexts v ≡ fan (tree-of n m ends kinds heights parents) (table choice) v
+      module _ {heads nexts : List ℕ} (C : ListsChained heads nexts (fan-in m sorted sources sides)) where
+        pub out-is : (v : ℕ) → v < 4096 → out-in heads nexts v ≡ fan (tree-of n m ends kinds heights parents) (at choice) v
         out-is v h = chained-list heads nexts (fan-in m sorted sources sides) C v h ∙ fans-are v
 
         pub out-fanned : Fanned (tree-of n m ends kinds heights parents) (out-in heads nexts)
@@ -158,7 +159,7 @@ module _ {n m : ℕ} {ends kinds heights parents sources lows highs tops choice 
               once = λ v k h l. ap (many k) (out-is v (omega arith)) ∙ F .once v k h l;
             }
 
-        pub out-chained : Chained heads nexts (out-in heads nexts)
+        pub out-chained : ListsChained heads nexts (out-in heads nexts)
         out-chained = chained-as heads nexts (fan-in m sorted sources sides) C (out-in heads nexts) (λ v h. sym (chained-list heads nexts (fan-in m sorted sources sides) C v h))
 
         pub order-walkable : Walkable n m ends kinds heights parents heads nexts

@@ -15,7 +15,7 @@ use Rattle.tree.proofs.Searched.{Searched}
 use Rattle.tree.proofs.Grown.{searched}
 use Rattle.fans.specs.Chains.{Chain}
 use Rattle.clockwise.specs.Order.{discovered}
-use Rattle.clockwise.specs.Walks.{target-in, out-in, Walkable, Setting-out, Walked}
+use Rattle.clockwise.specs.Walks.{target-in, out-in, Walkable, Setting-out, WalkedBack}
 use Rattle.clockwise.proofs.Discovered.{by-way}
 use Rattle.clockwise.proofs.Walking.{Walking, ahead}
 
@@ -71,7 +71,7 @@ module _ {n m : ℕ} {ends kind height parent heads nexts : List ℕ} {v count :
           stems-known = G .stems-known;
         }
 
-    pub walking-back : {at′ : ℕ} {path′ found′ stems′ : List ℕ} → Walked (tree-of n m ends kind height parent) (out-in heads nexts) w at path found at′ path′ found′ stems′
+    pub walking-back : {at′ : ℕ} {path′ found′ stems′ : List ℕ} → WalkedBack (tree-of n m ends kind height parent) (out-in heads nexts) w at path found at′ path′ found′ stems′
         → {after : ℕ} → (after ≡ getD nexts e 0) × (after < 65536) → Walking n m ends kind height parent heads nexts v count path₀ found₀ path′ found′ stems′ at′ after
     walking-back {at′} {path′} {found′} {stems′} R is-after =
         let A = ahead G d in

@@ -12,21 +12,22 @@ use Rattle.laws.specs.Sorting.{gather}
 use Rattle.laws.proofs.Cases.{cases, bool, eq-or}
 use Rattle.laws.proofs.Lists.{All, all-map}
 use Rattle.laws.proofs.Gathering.{gather-nil, gather-cons}
+use Rattle.network.specs.Marks.{absent}
 use Rattle.tree.specs.Tree.{Tree, tree-of}
 use Rattle.tree.specs.Words.{Leaves}
 use Rattle.tree.proofs.Searched.{Searched}
 use Rattle.tree.proofs.Grown.{searched}
-use Rattle.fans.specs.Chains.{none, Chain, chain-from}
+use Rattle.fans.specs.Chains.{Chain, chain-from}
 use Rattle.fans.proofs.Hanging.{chain-list}
 use Rattle.clockwise.specs.Order.{discovered}
-use Rattle.clockwise.specs.Walks.{Fanned, Tabled, out-in, Walkable, On-path, Stem, Setting-out, Walked}
+use Rattle.clockwise.specs.Walks.{Fanned, StandsIn, out-in, Walkable, On-path, Stem, Setting-out, WalkedBack}
 use Rattle.clockwise.proofs.Discovered.{by-way, discovered-more, discovered-same}
 
 chain-short : (nexts : List ℕ) (k h : ℕ) → length (chain-from nexts k h) ≤ k
 unfolding chain-from
 chain-short nexts zero h = omega arith
 chain-short nexts (suc k) h =
-    cases (bool (eqb h none))
+    cases (bool (eqb h absent))
     (λ t. rw t (omega arith))
     (λ t. rw t (omega (arith, chain-short nexts k (getD nexts h 0))))
 
@@ -166,7 +167,7 @@ module _ {n m : ℕ} {ends kind height parent heads nexts : List ℕ} where
               left = ap length list;
             }
 
-    pub walking-tabled : (e ≡ 65535 → ⊥) → Tabled e ends kind height
+    pub walking-tabled : (e ≡ 65535 → ⊥) → StandsIn e ends kind height
     walking-tabled d =
         let A = ahead d in
         record {
@@ -191,11 +192,11 @@ module _ {n m : ℕ} {ends kind height parent heads nexts : List ℕ} where
         omega (arith, ap length list, A .left)
 
     -- the fan is done
-    pub walking-done : e ≡ 65535 → Walked (tree-of n m ends kind height parent) (out-in heads nexts) v count path₀ found₀ at path found stems
+    pub walking-done : e ≡ 65535 → WalkedBack (tree-of n m ends kind height parent) (out-in heads nexts) v count path₀ found₀ at path found stems
     walking-done z = go (G .rest) (G .fan) (G .chain) (G .leaving)
       where
         go : (r : List ℕ) → out-in heads nexts v ≡ G .done ++ r → Chain nexts e r → All (Leaves (tree-of n m ends kind height parent) v) r
-            → Walked (tree-of n m ends kind height parent) (out-in heads nexts) v count path₀ found₀ at path found stems
+            → WalkedBack (tree-of n m ends kind height parent) (out-in heads nexts) v count path₀ found₀ at path found stems
         go [] f c a =
             let q : discovered S out n v ≡ gather B (G .done) = discovered-here S X out (W .fanned) v (G .vertex-in) ∙ ap (gather B) (f ∙ append-nil (G .done)) in
             record {
@@ -209,7 +210,7 @@ module _ {n m : ℕ} {ends kind height parent heads nexts : List ℕ} where
 
 -- the walk's own line on the path is above what is kept
 pub walked-from : {S : Tree} {out : ℕ → List ℕ} {v count : ℕ} {path : List ℕ} {h : ℕ} (t : ℕ) {found : List ℕ} {at : ℕ} {path′ found′ stems′ : List ℕ}
-    → (h ≡ S .height v) × (h < 65536) → Walked S out v count (set path h t) found at path′ found′ stems′ → Walked S out v count path found at path′ found′ stems′
+    → (h ≡ S .height v) × (h < 65536) → WalkedBack S out v count (set path h t) found at path′ found′ stems′ → WalkedBack S out v count path found at path′ found′ stems′
 walked-from {path = path} {h = h} t is-h R =
     record {
       path-long = R .path-long;

@@ -9,7 +9,7 @@ use Rattle.laws.specs.Counting.{many}
 use Rattle.laws.specs.Lists.{keep, upto}
 use Rattle.laws.specs.Sorting.{gather}
 use Rattle.side.specs.Sides.{left, right}
-use Rattle.fans.specs.Chains.{Chained}
+use Rattle.fans.specs.Chains.{ListsChained}
 use Rattle.clockwise.specs.Walks.{out-in}
 
 -- The lines found have a stem and a side, so that they fall into groups.
@@ -36,7 +36,7 @@ item-in heads nexts e = out-in heads nexts (2 * e + left) ++ (e ∷ out-in heads
 
 pub record Besides (e at : ℕ) (heads nexts order : List ℕ) : Type 0 where
   pub line-in : e < 2048
-  pub groups : Chained heads nexts (out-in heads nexts)
+  pub groups : ListsChained heads nexts (out-in heads nexts)
   pub room : at + length (item-in heads nexts e) ≤ length order
 
 -- The lines of a fan, each with its groups.
@@ -45,8 +45,8 @@ spread-in fans nexts groups after v = gather (item-in groups after) (out-in fans
 
 pub record Spreads (v at : ℕ) (fans nexts groups after order : List ℕ) : Type 0 where
   pub vertex-in : v < 512
-  pub fanned : Chained fans nexts (out-in fans nexts)
-  pub grouped : Chained groups after (out-in groups after)
+  pub fanned : ListsChained fans nexts (out-in fans nexts)
+  pub grouped : ListsChained groups after (out-in groups after)
   pub room : at + length (spread-in fans nexts groups after v) ≤ length order
 
 -- The line from the parent, where there is a parent.
@@ -67,8 +67,8 @@ pub record Layable (n : ℕ) (heights parents fans nexts groups after : List ℕ
   pub few : n ≤ 512
   pub heights-long : length heights ≡ 512
   pub parents-long : length parents ≡ 512
-  pub fanned : Chained fans nexts (out-in fans nexts)
-  pub grouped : Chained groups after (out-in groups after)
+  pub fanned : ListsChained fans nexts (out-in fans nexts)
+  pub grouped : ListsChained groups after (out-in groups after)
   pub room : length (gather (lines-at heights parents fans nexts groups after) (upto n)) ≤ 4096
 
 -- The lists of the first n vertices stand one after the other, and it is known where each begins.

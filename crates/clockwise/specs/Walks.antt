@@ -7,6 +7,7 @@ use lib.Dec.{eqb, ltb}
 use lib.ListN.{getD, length, take}
 use Rattle.laws.specs.Counting.{many}
 use Rattle.laws.proofs.Lists.{All}
+use Rattle.network.specs.Marks.{tree}
 use Rattle.network.specs.Network.{first, second}
 use Rattle.tree.specs.Tree.{Tree, tree-of, lower, higher}
 use Rattle.tree.specs.Words.{TreeLine, Above, Leaves}
@@ -18,14 +19,14 @@ use Rattle.clockwise.specs.Order.{discovered}
 unfoldable pub is-forward : List ℕ → List ℕ → List ℕ → ℕ → Bool
 is-forward ends kind height k =
     let up = ltb (getD height (first ends k) 0) (getD height (second ends k) 0) in
-    cond (eqb (getD kind k 0) 0) up (not up)
+    cond (eqb (getD kind k 0) tree) up (not up)
 
 -- Where line k ends.
 abbrev pub target-in : List ℕ → List ℕ → List ℕ → ℕ → ℕ
-target-in ends kind height k = cond (eqb (getD kind k 0) 0) (higher ends height k) (lower ends height k)
+target-in ends kind height k = cond (eqb (getD kind k 0) tree) (higher ends height k) (lower ends height k)
 
 -- Line k stands in the tables.
-pub record Tabled (k : ℕ) (ends kind height : List ℕ) : Type 0 where
+pub record StandsIn (k : ℕ) (ends kind height : List ℕ) : Type 0 where
   pub few : k < 2048
   pub ends-long : 2 * k + 1 < length ends
   pub kinds-long : k < length kind
@@ -81,7 +82,7 @@ pub record Setting-out (S : Tree) (out : ℕ → List ℕ) (v at : ℕ) (path fo
   pub stems-known : All (λ b. Stem S b (getD stems b 0)) (take at found)
 
 -- The walk is back at v: what it discovered is written down, with its stems, and the path to v is as it was.
-pub record Walked (S : Tree) (out : ℕ → List ℕ) (v at : ℕ) (path found : List ℕ) (at′ : ℕ) (path′ found′ stems′ : List ℕ) : Type 0 where
+pub record WalkedBack (S : Tree) (out : ℕ → List ℕ) (v at : ℕ) (path found : List ℕ) (at′ : ℕ) (path′ found′ stems′ : List ℕ) : Type 0 where
   pub path-long : length path′ ≡ 512
   pub stems-long : length stems′ ≡ 2048
   pub appended : Appended (discovered S out (S .vertices) v) found at found′ at′

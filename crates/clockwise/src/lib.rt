@@ -3,14 +3,16 @@ mod walks;
 mod ways;
 
 ghost use Prim.Native.Nat.{ℕ, _+_, _*_, _<_};
+ghost use Rattle.laws.specs.Lists.{at};
 ghost use Rattle.tree.specs.Tree.{«tree-of»};
-ghost use Rattle.fans.specs.Chains.{Chained, Appended, table};
+ghost use Rattle.fans.specs.Chains.{ListsChained, Appended};
 ghost use Rattle.clockwise.specs.Laying.{Groupable, «groups-in», «item-in», Besides, «spread-in», Spreads, «first-in», Begins, «lines-at», Layable, «Laid-out»};
 ghost use Rattle.clockwise.specs.Order.{«order-at»};
 ghost use Rattle.clockwise.specs.Ordering.{Orderable};
 use fans::chains;
 use fans::chains::Chains;
 use fans::nests;
+use network::Absent;
 use network::wide;
 use side::Side;
 
@@ -36,7 +38,7 @@ pub fn ordered(
 ) -> Order
     requires { ⌜ Orderable vertices lines (now ends) (now kinds) (now heights) (now parents) (now sources) (now lows) (now highs) (now tops) (now choice) ⌝ }
     ensures { λ r. ⌜ Laid-out vertices (order-at (tree-of vertices lines (now (ends .entry)) (now (kinds .entry)) (now (heights .entry)) (now (parents .entry)))
-        (table (now (choice .entry)))) (r .order) (r .starts) ⌝ }
+        (at (now (choice .entry)))) (r .order) (r .starts) ⌝ }
 {
     let ranks = nests::ranked(lines, lows, highs);
     let sides = nests::sided(lines, kinds, tops, choice);
@@ -71,10 +73,10 @@ pub fn ordered(
 // For each line and each side, the lines found that come in from above it, those found later first.
 fn grouped(count: usize, found: &[u16], stems: &[u16], sides: &[u8]) -> Chains
     requires { ⌜ Groupable count (now found) (now stems) (now sides) ⌝ }
-    ensures { λ r. ⌜ Chained (r .heads) (r .nexts) (groups-in count (now (found .entry)) (now (stems .entry)) (now (sides .entry))) ⌝ }
+    ensures { λ r. ⌜ ListsChained (r .heads) (r .nexts) (groups-in count (now (found .entry)) (now (stems .entry)) (now (sides .entry))) ⌝ }
 {
-    let mut heads = [65535u16; 4096];
-    let mut nexts = [65535u16; 2048];
+    let mut heads = [Absent::ENTRY; 4096];
+    let mut nexts = [Absent::ENTRY; 2048];
     let mut i = 0;
     while i < count {
         let b = wide(found[i]);
@@ -141,7 +143,7 @@ fn spread(
 {
     let mut i = at;
     let mut e = wide(fans[v]);
-    while e != 65535 {
+    while e != Absent::INDEX {
         i = beside(e, i, groups, after, order);
         e = wide(nexts[e]);
     }

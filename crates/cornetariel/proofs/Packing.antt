@@ -8,23 +8,22 @@ use native.Mathlib.Omega.{arith}
 use lib.Dec.{ltb}
 use lib.ListN.{length, take, length-take}
 use Rattle.laws.specs.Checks.{check}
-use Rattle.laws.specs.Lists.{filled}
+use Rattle.laws.specs.Lists.{filled, at}
 use Rattle.laws.proofs.Cases.{cases}
 use Rattle.laws.proofs.Counting.{many-le}
 use Rattle.network.specs.Network.{Network, network}
-use Rattle.network.specs.Numbers.{refused, done}
+use Rattle.network.specs.Numbers.{refused, done, Untouched, triple, pair}
 use Rattle.network.specs.Inside.{Fit}
 use Rattle.network.specs.declared.Answer.{Answer}
 use Rattle.network.proofs.Checks.{sized}
 use Rattle.network.proofs.Sifting.{checked-elim}
 use Rattle.search.specs.Machine.{finished, tree-in}
-use Rattle.search.specs.Orient.{Orient, Untouched, Oriented, cramped, back-lines}
+use Rattle.search.specs.Orient.{Orient, Oriented, cramped, back-lines}
 use Rattle.text.specs.Text.{room, text-of, vertices-in, lines-in}
 use Rattle.text.specs.Calls.{Read, Write}
-use Rattle.groups.specs.Order.{at}
 use Rattle.choice.specs.Choice.{Drawable, Proper, Outdone}
-use Rattle.choice.specs.Calls.{FirstChoice, cramped-first, Untouched as Unwritten, Chosen, Ringed, NextChoice, cramped-next, Unmoved, Stepped}
-use Rattle.drawing.specs.Draw.{Draw, cramped-draw, Balanced, Undrawn, Drew, meshes-in}
+use Rattle.choice.specs.Calls.{FirstChoice, cramped-first, Chosen, Ringed, NextChoice, cramped-next, Stepped}
+use Rattle.drawing.specs.Draw.{Draw, cramped-draw, Balanced, Drew, meshes-in}
 use Rattle.cornetariel.specs.Face.{packed, Packed, Small}
 
 small-refused : (k : ℕ) → k < 256 → Small (refused k)
@@ -43,15 +42,15 @@ backs-few net fit =
 
 pub small-orient : (n : ℕ) (ends ks hs ks′ hs′ : List ℕ) (a : Answer) → Orient n ends ks hs a ks′ hs′ → Small a
 small-orient n ends ks hs ks′ hs′ a o =
-    checked-elim n ends (cramped n ends ks hs) (Untouched ks hs a ks′ hs′) (Oriented (network n ends) ks hs a ks′ hs′) o
-    (λ k some few (u : Untouched ks hs a ks′ hs′ k). small-is (u .answers) (small-refused k (omega arith)))
+    checked-elim n ends (cramped n ends ks hs) (Untouched (pair ks hs) a (pair ks′ hs′)) (Oriented (network n ends) ks hs a ks′ hs′) o
+    (λ k some few (u : Untouched (pair ks hs) a (pair ks′ hs′) k). small-is (u .answers) (small-refused k (omega arith)))
     (λ f c g. small-is (g .answers) (small-done (back-lines (network n ends)) 0 (omega (arith, backs-few (network n ends) f)) (omega arith)))
 
 pub small-first : (n : ℕ) (ends choice rl rk choice′ rl′ rk′ : List ℕ) (a : Answer) → FirstChoice n ends choice rl rk a choice′ rl′ rk′ → Small a
 small-first n ends choice rl rk choice′ rl′ rk′ a o =
-    checked-elim n ends (cramped-first ends choice rl rk) (Unwritten choice rl rk a choice′ rl′ rk′)
+    checked-elim n ends (cramped-first ends choice rl rk) (Untouched (triple choice rl rk) a (triple choice′ rl′ rk′))
     (check (Drawable (tree-in (network n ends))) (Chosen (network n ends) choice rl rk a choice′ rl′ rk′) (Ringed (network n ends) choice rl rk a choice′ rl′ rk′)) o
-    (λ k some few (u : Unwritten choice rl rk a choice′ rl′ rk′ k). small-is (u .answers) (small-refused k (omega arith)))
+    (λ k some few (u : Untouched (triple choice rl rk) a (triple choice′ rl′ rk′) k). small-is (u .answers) (small-refused k (omega arith)))
     (λ f c g.
     cases g
     (λ y. small-is (y .1 .answers) (small-done (back-lines (network n ends)) 0 (omega (arith, backs-few (network n ends) f)) (omega arith)))
@@ -59,10 +58,10 @@ small-first n ends choice rl rk choice′ rl′ rk′ a o =
 
 pub small-next : (n : ℕ) (ends choice choice′ : List ℕ) (a : Answer) → NextChoice n ends choice a choice′ → Small a
 small-next n ends choice choice′ a o =
-    checked-elim n ends (cramped-next ends choice) (Unmoved choice a choice′)
+    checked-elim n ends (cramped-next ends choice) (Untouched choice a choice′)
     (check (Proper (tree-in (network n ends)) (at choice))
-    (check (Outdone (tree-in (network n ends)) (at choice)) (Stepped (network n ends) choice a choice′) (Unmoved choice a choice′ 9)) (Unmoved choice a choice′ 8)) o
-    (λ k some few (u : Unmoved choice a choice′ k). small-is (u .answers) (small-refused k (omega arith)))
+    (check (Outdone (tree-in (network n ends)) (at choice)) (Stepped (network n ends) choice a choice′) (Untouched choice a choice′ 9)) (Untouched choice a choice′ 8)) o
+    (λ k some few (u : Untouched choice a choice′ k). small-is (u .answers) (small-refused k (omega arith)))
     (λ f c g.
     cases g
     (λ y.
@@ -73,11 +72,11 @@ small-next n ends choice choice′ a o =
 
 pub small-draw : (n : ℕ) (ends choice order mesh sizes order′ mesh′ sizes′ : List ℕ) (a : Answer) → Draw n ends choice order mesh sizes a order′ mesh′ sizes′ → Small a
 small-draw n ends choice order mesh sizes order′ mesh′ sizes′ a o =
-    checked-elim n ends (cramped-draw (length ends / 2) (length choice) (length order) (length mesh) (length sizes)) (Undrawn order mesh sizes a order′ mesh′ sizes′)
+    checked-elim n ends (cramped-draw (length ends / 2) (length choice) (length order) (length mesh) (length sizes)) (Untouched (triple order mesh sizes) a (triple order′ mesh′ sizes′))
     (check (Proper (tree-in (network n ends)) (at choice))
-    (check (Balanced (network n ends) choice) (Drew (network n ends) choice order mesh sizes a order′ mesh′ sizes′) (Undrawn order mesh sizes a order′ mesh′ sizes′ 10))
-    (Undrawn order mesh sizes a order′ mesh′ sizes′ 8)) o
-    (λ k some few (u : Undrawn order mesh sizes a order′ mesh′ sizes′ k). small-is (u .answers) (small-refused k (omega arith)))
+    (check (Balanced (network n ends) choice) (Drew (network n ends) choice order mesh sizes a order′ mesh′ sizes′) (Untouched (triple order mesh sizes) a (triple order′ mesh′ sizes′) 10))
+    (Untouched (triple order mesh sizes) a (triple order′ mesh′ sizes′) 8)) o
+    (λ k some few (u : Untouched (triple order mesh sizes) a (triple order′ mesh′ sizes′) k). small-is (u .answers) (small-refused k (omega arith)))
     (λ f c g.
     cases g
     (λ y.
@@ -88,17 +87,17 @@ small-draw n ends choice order mesh sizes order′ mesh′ sizes′ a o =
 
 pub small-write : (n : ℕ) (ends text text′ : List ℕ) (a : Answer) → Write n ends text a text′ → Small a
 small-write n ends text text′ a o =
-    checked-elim n ends (ltb (length text) (room (length ends / 2))) (λ k. (a ≡ refused k) × (text′ ≡ text))
+    checked-elim n ends (ltb (length text) (room (length ends / 2))) (Untouched text a text′)
     ((a ≡ done (room (length ends / 2)) 0) × (text′ ≡ filled (room (length ends / 2)) (text-of n ends) text)) o
-    (λ k some few (u : (a ≡ refused k) × (text′ ≡ text)). small-is (u .0) (small-refused k (omega arith)))
+    (λ k some few (u : Untouched text a text′ k). small-is (u .answers) (small-refused k (omega arith)))
     (λ f c g. small-is (g .0) (small-done (room (length ends / 2)) 0 (omega (arith, f .few-lines)) (omega arith)))
 
 pub small-read : (text ends ends′ : List ℕ) (a : Answer) → Read text ends a ends′ → Small a
-small-read text ends ends′ a (inl (t, u)) = small-is (u .0) (small-refused 1 (omega arith))
-small-read text ends ends′ a (inr (one, inl (t, u))) = small-is (u .0) (small-refused 2 (omega arith))
-small-read text ends ends′ a (inr (one, inr (two, inl (t, u)))) = small-is (u .0) (small-refused 3 (omega arith))
-small-read text ends ends′ a (inr (one, inr (two, inr (three, inl (t, u))))) = small-is (u .0) (small-refused 4 (omega arith))
-small-read text ends ends′ a (inr (one, inr (two, inr (three, inr (four, inl (t, u)))))) = small-is (u .0) (small-refused 5 (omega arith))
+small-read text ends ends′ a (inl (t, u)) = small-is (u .answers) (small-refused 1 (omega arith))
+small-read text ends ends′ a (inr (one, inl (t, u))) = small-is (u .answers) (small-refused 2 (omega arith))
+small-read text ends ends′ a (inr (one, inr (two, inl (t, u)))) = small-is (u .answers) (small-refused 3 (omega arith))
+small-read text ends ends′ a (inr (one, inr (two, inr (three, inl (t, u))))) = small-is (u .answers) (small-refused 4 (omega arith))
+small-read text ends ends′ a (inr (one, inr (two, inr (three, inr (four, inl (t, u)))))) = small-is (u .answers) (small-refused 5 (omega arith))
 small-read text ends ends′ a (inr (one, inr (two, inr (three, inr (four, inr (five, inl (c, g))))))) =
     let s = sized (vertices-in text) (2 * lines-in text) (false-is _ two) in
     small-is (g .0) (small-done (vertices-in text) (lines-in text) (omega (arith, s .1)) (omega (arith, s .2)))
@@ -106,7 +105,7 @@ small-read text ends ends′ a (inr (one, inr (two, inr (three, inr (four, inr (
     false-is : (b : Bool) → (b ≡ true → ⊥) → b ≡ false
     false-is true d = absurd (d refl)
     false-is false d = refl
-small-read text ends ends′ a (inr (one, inr (two, inr (three, inr (four, inr (five, inr (c, u))))))) = small-is (u .0) (small-refused 6 (omega arith))
+small-read text ends ends′ a (inr (one, inr (two, inr (three, inr (four, inr (five, inr (c, u))))))) = small-is (u .answers) (small-refused 6 (omega arith))
 
 pub packed-by : (says : Answer → Type 0) (a : Answer) (r : ℕ) → says a → Small a → r ≡ packed a → Packed says r
 packed-by says a r s p e = record { answer = a; allowed = s; parts = p; packs = e }

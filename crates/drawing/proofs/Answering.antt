@@ -2,7 +2,7 @@
 use mathlib.Core.Bool.{Bool, true, false}
 use mathlib.Core.List.{List, _++_}
 use mathlib.Core.Logic.{inl, inr}
-use mathlib.Core.Path.{_≡_, refl, sym, ap, _∙_, subst}
+use mathlib.Core.Path.{_≡_, sym, ap, _∙_, subst}
 use Prim.Native.Nat.{ℕ, _+_, _*_, _/_, _≤_, _<_}
 use native.Mathlib.Omega.{arith}
 use lib.Dec.{ltb}
@@ -11,13 +11,13 @@ use lib.Seq.{take-take}
 use borrow.Author.Tests.{lt-ltb, le-ltb, ltb-false}
 use Rattle.laws.specs.Tests.{either}
 use Rattle.laws.specs.Checks.{check}
-use Rattle.laws.specs.Lists.{filled}
+use Rattle.laws.specs.Lists.{filled, at}
 use Rattle.laws.proofs.Tests.{either-first, either-second, either-no, either-neither}
 use Rattle.network.specs.Network.{Network, network}
-use Rattle.network.specs.Numbers.{refused, done, oversize, odd}
+use Rattle.network.specs.Numbers.{refused, done, oversize, odd, Untouched, triple}
 use Rattle.network.specs.declared.Answer.{Answer}
 use Rattle.network.proofs.Checks.{sized}
-use Rattle.network.proofs.Sifting.{refuse-2, refuse-3, refuse-rest}
+use Rattle.network.proofs.Sifting.{refuse-2, refuse-3, refuse-rest, untouched}
 use Rattle.tree.specs.Tree.{Tree, tree-of}
 use Rattle.tree.specs.Words.{Above}
 use Rattle.search.specs.Machine.{tree-in}
@@ -27,12 +27,11 @@ use Rattle.search.proofs.Calls.{explored}
 use Rattle.fork.specs.Inside.{Known}
 use Rattle.returns.specs.Inside.{Tabled}
 use Rattle.returns.specs.declared.Forks.{Forks}
-use Rattle.groups.specs.Order.{at}
 use Rattle.choice.specs.Choice.{Proper}
 use Rattle.choice.specs.Inside.{Decides}
 use Rattle.choice.proofs.Answering.{explored-known, explored-tree}
 use Rattle.clockwise.specs.Ordering.{Orderable}
-use Rattle.drawing.specs.Draw.{meshes-in, size-list-in, cramped-draw, Balanced, Undrawn, Drew, Draw}
+use Rattle.drawing.specs.Draw.{meshes-in, size-list-in, cramped-draw, Balanced, Drew, Draw}
 use Rattle.drawing.specs.Drawing.{Drawn}
 use Rattle.drawing.specs.Settling.{Settling, Settled}
 use Rattle.drawing.proofs.Rooted.{root-low, rooted}
@@ -81,7 +80,7 @@ roomy lines choice order mesh sizes e =
 
 module _ (n m count : ℕ) {all meshes each order mesh sizes : List ℕ} where
   pub settled-10 : (n + count ≡ m + 2 → ⊥) → {r : Answer} → r ≡ refused 10 → Settled n m count all meshes each order mesh sizes r order mesh sizes
-  settled-10 d e = inr (d, record { answers = e; same-order = refl; same-mesh = refl; same-sizes = refl })
+  settled-10 d e = inr (d, untouched e)
 
   pub settled-0 : n + count ≡ m + 2 → {r : Answer} → r ≡ done count 0 → {order′ : List ℕ} → order′ ≡ filled (2 * m) all order → {mesh′ : List ℕ} → mesh′ ≡ filled (2 * m) meshes mesh
       → {sizes′ : List ℕ} → sizes′ ≡ filled count each sizes → Settled n m count all meshes each order mesh sizes r order′ mesh′ sizes′
@@ -107,24 +106,21 @@ module _ (n : ℕ) (ends choice order mesh sizes : List ℕ) (two : Bool) (is-tw
   short = cramped-draw (length ends / 2) (length choice) (length order) (length mesh) (length sizes)
 
   abbrev Nothing : Answer → List ℕ → List ℕ → List ℕ → ℕ → Type 0
-  Nothing r o d s = Undrawn order mesh sizes r o d s
+  Nothing r o d s = Untouched (triple order mesh sizes) r (triple o d s)
 
   abbrev Granted : Answer → List ℕ → List ℕ → List ℕ → Type 0
   Granted r o d s =
       check (Proper (tree-in net) (at choice))
-      (check (Balanced net choice) (Drew net choice order mesh sizes r o d s) (Undrawn order mesh sizes r o d s 10))
-      (Undrawn order mesh sizes r o d s 8)
-
-  undrawn : {r : Answer} {k : ℕ} → r ≡ refused k → Undrawn order mesh sizes r order mesh sizes k
-  undrawn e = record { answers = e; same-order = refl; same-mesh = refl; same-sizes = refl }
+      (check (Balanced net choice) (Drew net choice order mesh sizes r o d s) (Untouched (triple order mesh sizes) r (triple o d s) 10))
+      (Untouched (triple order mesh sizes) r (triple o d s) 8)
 
   pub draw-2 : two ≡ true → (r : Answer) → r ≡ refused 2 → Draw n ends choice order mesh sizes r order mesh sizes
-  draw-2 t r e = refuse-2 n ends short (Nothing r order mesh sizes) (Granted r order mesh sizes) (sym is-two ∙ t) (undrawn e)
+  draw-2 t r e = refuse-2 n ends short (Nothing r order mesh sizes) (Granted r order mesh sizes) (sym is-two ∙ t) (untouched e)
 
   module _ (not-two : two ≡ false) where
     module _ (three : Bool) (is-three : three ≡ odd (length ends)) where
       draw-3 : either (odd (length ends)) short ≡ true → (r : Answer) → r ≡ refused 3 → Draw n ends choice order mesh sizes r order mesh sizes
-      draw-3 t r e = refuse-3 n ends short (Nothing r order mesh sizes) (Granted r order mesh sizes) (sym is-two ∙ not-two) t (undrawn e)
+      draw-3 t r e = refuse-3 n ends short (Nothing r order mesh sizes) (Granted r order mesh sizes) (sym is-two ∙ not-two) t (untouched e)
 
       pub draw-odd : three ≡ true → (r : Answer) → r ≡ refused 3 → Draw n ends choice order mesh sizes r order mesh sizes
       draw-odd t = draw-3 (either-first (odd (length ends)) short (sym is-three ∙ t))
@@ -144,7 +140,7 @@ module _ (n : ℕ) (ends choice order mesh sizes : List ℕ) (two : Bool) (is-tw
           pub draw-refused : (q .number ≡ 0 → ⊥) → (r : Answer) → r ≡ refused (q .number) → Draw n ends choice order mesh sizes r order mesh sizes
           draw-refused d r e =
               refuse-rest n ends short (Nothing r order mesh sizes) (Granted r order mesh sizes) enough x
-              (λ k some (u : q ≡ unsearched k). undrawn (e ∙ ap refused (ap (λ (y : Search). y .number) u)))
+              (λ k some (u : q ≡ unsearched k). untouched (e ∙ ap refused (ap (λ (y : Search). y .number) u)))
               (λ (g : q ≡ searched-of (network n ends)). absurd (d (ap (λ (y : Search). y .number) g)))
 
           module _ (z : q .number ≡ 0) where
@@ -167,7 +163,7 @@ module _ (n : ℕ) (ends choice order mesh sizes : List ℕ) (two : Bool) (is-tw
               pub draw-8 : good ≡ false → (r : Answer) → r ≡ refused 8 → Draw n ends choice order mesh sizes r order mesh sizes
               draw-8 f r e =
                   grant r order mesh sizes
-                  (inr (λ p. decides .fails f (subst (λ (T : Tree). Proper T (at choice)) (sym (explored-tree n ends q x z)) p), undrawn e))
+                  (inr (λ p. decides .fails f (subst (λ (T : Tree). Proper T (at choice)) (sym (explored-tree n ends q x z)) p), untouched e))
 
               module _ (aligned : good ≡ true) where
                 proper : Proper (tree-of n (length ends / 2) ends (q .kinds) (q .heights) (q .parents)) (at choice)
@@ -228,7 +224,7 @@ module _ (n : ℕ) (ends choice order mesh sizes : List ℕ) (two : Bool) (is-tw
                         as-many = E .count-is
 
                         go : Settled n (length ends / 2) count all meshes each order mesh sizes r order′ mesh′ sizes′
-                            → check (Balanced net choice) (Drew net choice order mesh sizes r order′ mesh′ sizes′) (Undrawn order mesh sizes r order′ mesh′ sizes′ 10)
+                            → check (Balanced net choice) (Drew net choice order mesh sizes r order′ mesh′ sizes′) (Untouched (triple order mesh sizes) r (triple order′ mesh′ sizes′) 10)
                         go (inr (d, u)) = inr (λ b. d (ap (λ (k : ℕ). n + k) as-many ∙ b), u)
                         go (inl (s, w)) =
                             inl (

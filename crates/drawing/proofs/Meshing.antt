@@ -11,8 +11,8 @@ use lib.Seq.{take-append-le, take-length, take-take, take-suc, drop-append-seam,
 use borrow.Author.Tests.{eq-eqb, ne-eqb}
 use Rattle.laws.specs.Tests.{both}
 use Rattle.laws.specs.Counting.{many, count}
-use Rattle.laws.specs.Lists.{from, upto}
-use Rattle.laws.specs.Orbits.{number, walks}
+use Rattle.laws.specs.Lists.{from, upto, at}
+use Rattle.laws.specs.Orbits.{walk-number, walks}
 use Rattle.laws.proofs.Cases.{cases, lt-or}
 use Rattle.laws.proofs.Counting.{count-same, count-all}
 use Rattle.laws.proofs.Orbits.{In, Turn, count-few, number-below}
@@ -21,11 +21,10 @@ use Rattle.laws.proofs.Places.{from-snoc}
 use Rattle.network.specs.Network.{Network, network-of}
 use Rattle.network.specs.Inside.{Fit}
 use Rattle.tree.specs.Tree.{Tree, tree-of}
-use Rattle.meshes.specs.Meshes.{opposite, leave, follow, turned, step, either-way, mesh-of, mesh-count, borders, mesh-size, mesh-list, size-list}
+use Rattle.meshes.specs.Meshes.{other-way, leave-by, follow, turned, next-direction, either-way, mesh-of, mesh-count, borders, mesh-size, mesh-list, size-list}
 use Rattle.meshes.specs.Inside.{every, Whole, order-in, Laid, Linked, Numberable, Numbered, on-mesh, Meshed, Sized}
-use Rattle.meshes.proofs.Directions.{opposite-below}
+use Rattle.meshes.proofs.Directions.{other-way-below}
 use Rattle.meshes.proofs.Turning.{turn}
-use Rattle.fans.specs.Chains.{table}
 use Rattle.clockwise.specs.Order.{order-at, flat}
 use Rattle.clockwise.specs.Laying.{Laid-out}
 use Rattle.clockwise.specs.Ordering.{Orderable}
@@ -74,7 +73,7 @@ module _ (n : ℕ) (list : ℕ → List ℕ) (order starts : List ℕ) (L : Laid
       ∙ ap (drop (length (flat v list))) (written-upto (suc v) h ∙ flat-next list v)
       ∙ drop-append-seam (flat v list) (list v)
 
-mesh-number : (live : ℕ → Bool) (m : ℕ) (ends : List ℕ) (order : ℕ → List ℕ) (d : ℕ) → mesh-of live m ends order d ≡ number (either-way live) (step ends order) (2 * m) d
+mesh-number : (live : ℕ → Bool) (m : ℕ) (ends : List ℕ) (order : ℕ → List ℕ) (d : ℕ) → mesh-of live m ends order d ≡ walk-number (either-way live) (next-direction ends order) (2 * m) d
 unfolding mesh-of
 mesh-number live m ends order d = refl
 
@@ -108,14 +107,14 @@ module _ {n m : ℕ} {ends : List ℕ} (fit : Fit (network-of n m ends)) {live :
 
   module _ {nexts : List ℕ} (K : Linked (network-of n m ends) order starts n nexts) where
     -- the table is the mesh map
-    follows : (d : ℕ) → In (2 * m) (either-way live) d → step ends list d ≡ table nexts d
-    unfolding step turned
+    follows : (d : ℕ) → In (2 * m) (either-way live) d → next-direction ends list d ≡ at nexts d
+    unfolding next-direction turned
     follows d w =
-        let x = opposite d in
-        let v-in : getD ends x 0 < n = fit .ends-in x (opposite-below d m (w .below)) in
-        sym (K .so-far d (w .below) v-in ∙ ap (λ (l : List ℕ). leave ends (getD ends x 0) (follow l (x / 2))) (part (getD ends x 0) v-in))
+        let x = other-way d in
+        let v-in : getD ends x 0 < n = fit .ends-in x (other-way-below d m (w .below)) in
+        sym (K .so-far d (w .below) v-in ∙ ap (λ (l : List ℕ). leave-by ends (getD ends x 0) (follow l (x / 2))) (part (getD ends x 0) v-in))
 
-    T : Turn (2 * m) (either-way live) (step ends list)
+    T : Turn (2 * m) (either-way live) (next-direction ends list)
     T = turn net fit live list whole
 
     same-on : (d : ℕ) → d < 2 * m → either-way live d ≡ every d
@@ -129,16 +128,16 @@ module _ {n m : ℕ} {ends : List ℕ} (fit : Fit (network-of n m ends)) {live :
         record {
           few = omega (arith, fit .few-lines);
           nexts-long = omega (arith, K .nexts-long, fit .few-lines);
-          turn = turn-agree (2 * m) (either-way live) every (step ends list) (table nexts) T same-on follows;
+          turn = turn-agree (2 * m) (either-way live) every (next-direction ends list) (at nexts) T same-on follows;
         }
 
     module _ {c : ℕ} {mesh : List ℕ} (N : Numbered (2 * m) nexts c mesh) where
       number-is : (d : ℕ) → d < 2 * m → getD mesh d 0 ≡ mesh-of live m ends list d
       unfolding mesh-of
-      number-is d h = N .given d h ∙ sym (number-agree (2 * m) (either-way live) every (step ends list) (table nexts) T same-on follows d (a-way d h))
+      number-is d h = N .given d h ∙ sym (number-agree (2 * m) (either-way live) every (next-direction ends list) (at nexts) T same-on follows d (a-way d h))
 
-      walks-are : c ≡ walks (either-way live) (step ends list) (2 * m)
-      walks-are = N .counted ∙ sym (walks-agree (2 * m) (either-way live) every (step ends list) (table nexts) T same-on follows)
+      walks-are : c ≡ walks (either-way live) (next-direction ends list) (2 * m)
+      walks-are = N .counted ∙ sym (walks-agree (2 * m) (either-way live) every (next-direction ends list) (at nexts) T same-on follows)
 
       lines-counted : count live m ≡ m
       lines-counted = count-same live (λ k. true) m (λ k h. all-live k h) ∙ count-all m
@@ -151,8 +150,8 @@ module _ {n m : ℕ} {ends : List ℕ} (fit : Fit (network-of n m ends)) {live :
             small = λ d h. omega (arith, number-is d h, below d h, walks-are, N .few, fit .few-lines);
           }
         where
-          below : (d : ℕ) → d < 2 * m → mesh-of live m ends list d < walks (either-way live) (step ends list) (2 * m)
-          below d h = subst (λ (x : ℕ). x < walks (either-way live) (step ends list) (2 * m)) (sym (mesh-number live m ends list d)) (number-below (2 * m) (either-way live) (step ends list) T d (a-way d h))
+          below : (d : ℕ) → d < 2 * m → mesh-of live m ends list d < walks (either-way live) (next-direction ends list) (2 * m)
+          below d h = subst (λ (x : ℕ). x < walks (either-way live) (next-direction ends list) (2 * m)) (sym (mesh-number live m ends list d)) (number-below (2 * m) (either-way live) (next-direction ends list) T d (a-way d h))
 
       pub mesh-none : m ≡ 0 → 1 ≡ mesh-count live m ends list
       unfolding mesh-count
@@ -186,7 +185,7 @@ module _ {n m : ℕ} {ends kinds heights parents sources lows highs tops choice 
   abbrev S : Tree
   S = tree-of n m ends kinds heights parents
 
-  module _ {order starts : List ℕ} (L : Laid-out n (order-at (tree-of n m ends kinds heights parents) (table choice)) order starts) where
+  module _ {order starts : List ℕ} (L : Laid-out n (order-at (tree-of n m ends kinds heights parents) (at choice)) order starts) where
     pub drawn-laid : Laid (network-of n m ends) order starts
     drawn-laid = mesh-laid (order-fits P) (all-live P) (order-whole P) L
 
@@ -199,7 +198,7 @@ module _ {n m : ℕ} {ends kinds heights parents sources lows highs tops choice 
         drawn-meshed = mesh-meshed (order-fits P) (all-live P) (order-whole P) L K N
 
         module _ {sizes : List ℕ} (Z : Sized m mesh sizes) where
-          drawn : (count : ℕ) → count ≤ 2 * m + 1 → count ≡ mesh-count (tree-of n m ends kinds heights parents .live) m ends (order-at (tree-of n m ends kinds heights parents) (table choice))
+          drawn : (count : ℕ) → count ≤ 2 * m + 1 → count ≡ mesh-count (tree-of n m ends kinds heights parents .live) m ends (order-at (tree-of n m ends kinds heights parents) (at choice))
               → Drawn n m ends kinds heights parents choice order count mesh sizes
           drawn count few e =
               let F = order-fits P in
@@ -209,8 +208,8 @@ module _ {n m : ℕ} {ends kinds heights parents sources lows highs tops choice 
                 sizes-long = Z .sizes-long;
                 count-few = few;
                 order-is =
-                    subst (λ (k : ℕ). take k order ≡ flat n (order-at S (table choice)))
-                    (flat-full (network-of n m ends) F (S .live) (order-at S (table choice)) (order-whole P) (all-live P)) (L .written);
+                    subst (λ (k : ℕ). take k order ≡ flat n (order-at S (at choice)))
+                    (flat-full (network-of n m ends) F (S .live) (order-at S (at choice)) (order-whole P) (all-live P)) (L .written);
                 count-is = e;
                 mesh-is = meshes-listed F (all-live P) (order-whole P) L K N;
                 sizes-are = sizes-listed F (all-live P) (order-whole P) L K N Z e (omega (arith, F .few-lines));

@@ -6,16 +6,12 @@ use lib.ListN.{length}
 use Rattle.laws.proofs.Checks.{check-once}
 use Rattle.network.specs.Network.{network}
 use Rattle.network.specs.declared.Answer.{Answer}
-use Rattle.network.proofs.Sifting.{checked-once}
-use Rattle.drawing.specs.Draw.{cramped-draw, Undrawn, Drew, Draw}
+use Rattle.network.proofs.Sifting.{checked-once, three-untouched-once}
+use Rattle.drawing.specs.Draw.{cramped-draw, Drew, Draw}
 
 module _ (n : ℕ) (ends choice order mesh sizes : List ℕ) (r r′ : Answer) (order′ order″ mesh′ mesh″ sizes′ sizes″ : List ℕ) where
   abbrev Same : Type 0
   Same = (r ≡ r′) × (order′ ≡ order″) × (mesh′ ≡ mesh″) × (sizes′ ≡ sizes″)
-
-  refused-once : (k : ℕ) → Undrawn order mesh sizes r order′ mesh′ sizes′ k → Undrawn order mesh sizes r′ order″ mesh″ sizes″ k → Same
-  refused-once k a b =
-      (a .answers ∙ sym (b .answers), a .same-order ∙ sym (b .same-order), a .same-mesh ∙ sym (b .same-mesh), a .same-sizes ∙ sym (b .same-sizes))
 
   drew-once : Drew (network n ends) choice order mesh sizes r order′ mesh′ sizes′ → Drew (network n ends) choice order mesh sizes r′ order″ mesh″ sizes″ → Same
   drew-once a b =
@@ -24,5 +20,5 @@ module _ (n : ℕ) (ends choice order mesh sizes : List ℕ) (r r′ : Answer) (
   pub draw-once : Draw n ends choice order mesh sizes r order′ mesh′ sizes′ → Draw n ends choice order mesh sizes r′ order″ mesh″ sizes″
       → (r ≡ r′) × (order′ ≡ order″) × (mesh′ ≡ mesh″) × (sizes′ ≡ sizes″)
   draw-once =
-      checked-once n ends (cramped-draw (length ends / 2) (length choice) (length order) (length mesh) (length sizes)) refused-once
-      (check-once (check-once drew-once (refused-once 10)) (refused-once 8))
+      checked-once n ends (cramped-draw (length ends / 2) (length choice) (length order) (length mesh) (length sizes)) three-untouched-once
+      (check-once (check-once drew-once (three-untouched-once 10)) (three-untouched-once 8))

@@ -10,23 +10,23 @@ use lib.ListN.{getD, length, take, drop, length-map, List·getD-append}
 use lib.Seq.{getD-take, length-take-le}
 use borrow.Author.Tests.{lt-ltb}
 use Rattle.laws.specs.Checks.{check}
-use Rattle.laws.specs.Lists.{from, upto, filled}
+use Rattle.laws.specs.Lists.{from, upto, filled, at}
 use Rattle.laws.proofs.Lengths.{length-from}
 use Rattle.laws.proofs.Orbits.{In}
 use Rattle.network.specs.Network.{Network, network, Connected}
 use Rattle.network.specs.Inside.{Fit}
 use Rattle.network.specs.declared.Answer.{Answer}
+use Rattle.network.specs.Numbers.{Untouched, triple}
 use Rattle.network.proofs.Sifting.{checked-elim}
 use Rattle.search.specs.Machine.{finished, tree-in}
 use Rattle.search.proofs.Grows.{grown, line-kind}
-use Rattle.groups.specs.Order.{at}
 use Rattle.choice.specs.Choice.{Proper}
 use Rattle.meshes.specs.Meshes.{either-way, mesh-of, mesh-list}
 use Rattle.meshes.specs.Inside.{Whole}
 use Rattle.meshes.proofs.Turning.{turn}
 use Rattle.meshes.proofs.Mesh.{count-one, mesh-below, mesh-step, mesh-meets}
 use Rattle.clockwise.proofs.Wholes.{drawn-whole}
-use Rattle.drawing.specs.Draw.{clockwise-in, meshes-in, mesh-list-in, cramped-draw, Balanced, Undrawn, Drew, Draw}
+use Rattle.drawing.specs.Draw.{clockwise-in, meshes-in, mesh-list-in, cramped-draw, Balanced, Drew, Draw}
 use Rattle.drawing.specs.Walked.{after, Walked}
 
 pub at-map : (f : ℕ → ℕ) (a n b : ℕ) → b < n → at (map f (from a n)) b ≡ f (a + b)
@@ -78,16 +78,16 @@ module _ (net : Network) (fit : Fit net) (connected : Connected net) (choice : L
 pub draw-walked : (n : ℕ) (ends choice order mesh sizes : List ℕ) (r : Answer) (order′ mesh′ sizes′ : List ℕ) → Draw n ends choice order mesh sizes r order′ mesh′ sizes′
     → r .number ≡ 0 → Walked (network n ends) choice mesh′ (r .count)
 draw-walked n ends choice order mesh sizes r order′ mesh′ sizes′ d z =
-    checked-elim n ends (cramped-draw (length ends / 2) (length choice) (length order) (length mesh) (length sizes)) (Undrawn order mesh sizes r order′ mesh′ sizes′) Granted d
+    checked-elim n ends (cramped-draw (length ends / 2) (length choice) (length order) (length mesh) (length sizes)) (Untouched (triple order mesh sizes) r (triple order′ mesh′ sizes′)) Granted d
     (λ k some few u. absurd (not-done k some u)) (λ f c g. go f c g)
   where
     Granted : Type 0
     Granted =
         check (Proper (tree-in (network n ends)) (at choice))
-        (check (Balanced (network n ends) choice) (Drew (network n ends) choice order mesh sizes r order′ mesh′ sizes′) (Undrawn order mesh sizes r order′ mesh′ sizes′ 10))
-        (Undrawn order mesh sizes r order′ mesh′ sizes′ 8)
+        (check (Balanced (network n ends) choice) (Drew (network n ends) choice order mesh sizes r order′ mesh′ sizes′) (Untouched (triple order mesh sizes) r (triple order′ mesh′ sizes′) 10))
+        (Untouched (triple order mesh sizes) r (triple order′ mesh′ sizes′) 8)
 
-    not-done : (k : ℕ) → 0 < k → Undrawn order mesh sizes r order′ mesh′ sizes′ k → ⊥
+    not-done : (k : ℕ) → 0 < k → Untouched (triple order mesh sizes) r (triple order′ mesh′ sizes′) k → ⊥
     not-done k h u = let e = ap (λ (x : Answer). x .number) (u .answers) in omega (arith, e)
 
     go : Fit (network n ends) → Connected (network n ends) → Granted → Walked (network n ends) choice mesh′ (r .count)

@@ -7,12 +7,11 @@ use lib.Dec.{ltb}
 use lib.ListN.{length}
 use Rattle.laws.specs.Tests.{either}
 use Rattle.laws.specs.Checks.{check}
-use Rattle.laws.specs.Lists.{filled}
+use Rattle.laws.specs.Lists.{filled, at}
 use Rattle.network.specs.Network.{Network, network}
-use Rattle.network.specs.Numbers.{refused, done, Checked}
+use Rattle.network.specs.Numbers.{done, Checked, Untouched, triple}
 use Rattle.network.specs.declared.Answer.{Answer}
 use Rattle.search.specs.Machine.{tree-in}
-use Rattle.groups.specs.Order.{at}
 use Rattle.choice.specs.Choice.{Proper}
 use Rattle.meshes.specs.Meshes.{mesh-count, mesh-list, size-list}
 use Rattle.clockwise.specs.Order.{order-at, flat}
@@ -39,13 +38,6 @@ cramped-draw lines choice order mesh sizes =
 abbrev pub Balanced : Network → List ℕ → Type 0
 Balanced net choice = net .vertices + meshes-in net choice ≡ net .lines + 2
 
--- A refusal answers its number and changes nothing.
-pub record Undrawn (order mesh sizes : List ℕ) (r : Answer) (order′ mesh′ sizes′ : List ℕ) (k : ℕ) : Type 0 where
-  pub answers : r ≡ refused k
-  pub same-order : order′ ≡ order
-  pub same-mesh : mesh′ ≡ mesh
-  pub same-sizes : sizes′ ≡ sizes
-
 -- With 0, the number of meshes; the order, the mesh of each direction and the size of each mesh are written, and what is past them stays.
 pub record Drew (net : Network) (choice order mesh sizes : List ℕ) (r : Answer) (order′ mesh′ sizes′ : List ℕ) : Type 0 where
   pub answers : r ≡ done (meshes-in net choice) 0
@@ -56,9 +48,9 @@ pub record Drew (net : Network) (choice order mesh sizes : List ℕ) (r : Answer
 -- 8 exactly where the lent choice is not aligned or not written as it should be, 10 exactly where the sum fails.
 abbrev pub Draw : ℕ → List ℕ → List ℕ → List ℕ → List ℕ → List ℕ → Answer → List ℕ → List ℕ → List ℕ → Type 0
 Draw n ends choice order mesh sizes r order′ mesh′ sizes′ =
-    Checked n ends (cramped-draw (length ends / 2) (length choice) (length order) (length mesh) (length sizes)) (Undrawn order mesh sizes r order′ mesh′ sizes′)
+    Checked n ends (cramped-draw (length ends / 2) (length choice) (length order) (length mesh) (length sizes)) (Untouched (triple order mesh sizes) r (triple order′ mesh′ sizes′))
     (check (Proper (tree-in (network n ends)) (at choice))
     (check (Balanced (network n ends) choice)
     (Drew (network n ends) choice order mesh sizes r order′ mesh′ sizes′)
-    (Undrawn order mesh sizes r order′ mesh′ sizes′ 10))
-    (Undrawn order mesh sizes r order′ mesh′ sizes′ 8))
+    (Untouched (triple order mesh sizes) r (triple order′ mesh′ sizes′) 10))
+    (Untouched (triple order mesh sizes) r (triple order′ mesh′ sizes′) 8))

@@ -5,9 +5,8 @@ use Prim.Native.Nat.{ℕ, _+_, _*_, _≤_}
 use lib.ListN.{length}
 use Rattle.laws.specs.Checks.{check}
 use Rattle.laws.specs.Lists.{filled}
-use Rattle.network.specs.Numbers.{done}
+use Rattle.network.specs.Numbers.{done, Untouched, triple}
 use Rattle.network.specs.declared.Answer.{Answer}
-use Rattle.drawing.specs.Draw.{Undrawn}
 
 -- There is room for what is to be written.
 pub record Settling (n m count : ℕ) (all meshes each order mesh sizes : List ℕ) : Type 0 where
@@ -30,4 +29,4 @@ pub record Wrote (m count : ℕ) (all meshes each order mesh sizes : List ℕ) (
 -- Where the sum is right, all is written; else nothing.
 abbrev pub Settled : ℕ → ℕ → ℕ → List ℕ → List ℕ → List ℕ → List ℕ → List ℕ → List ℕ → Answer → List ℕ → List ℕ → List ℕ → Type 0
 Settled n m count all meshes each order mesh sizes r order′ mesh′ sizes′ =
-    check (n + count ≡ m + 2) (Wrote m count all meshes each order mesh sizes r order′ mesh′ sizes′) (Undrawn order mesh sizes r order′ mesh′ sizes′ 10)
+    check (n + count ≡ m + 2) (Wrote m count all meshes each order mesh sizes r order′ mesh′ sizes′) (Untouched (triple order mesh sizes) r (triple order′ mesh′ sizes′) 10)

@@ -5,14 +5,14 @@ use Prim.Native.Nat.{ℕ, _+_, _*_, _<_}
 use lib.Dec.{eqb}
 use Rattle.laws.specs.Counting.{count}
 use Rattle.laws.specs.Orbits.{walk}
+use Rattle.laws.specs.Lists.{at}
 use Rattle.network.specs.Network.{Network}
-use Rattle.groups.specs.Order.{at}
-use Rattle.meshes.specs.Meshes.{step}
+use Rattle.meshes.specs.Meshes.{next-direction}
 use Rattle.drawing.specs.Draw.{clockwise-in}
 
 -- The direction after d, by the order that the choice gives.
 abbrev pub after : Network → List ℕ → ℕ → ℕ
-after net choice d = step (net .ends) (clockwise-in net choice) d
+after net choice d = next-direction (net .ends) (clockwise-in net choice) d
 
 -- The buffer of meshes, filled by a drawing with so many.
 pub record Walked (net : Network) (choice mesh : List ℕ) (meshes : ℕ) : Type 0 where

@@ -8,7 +8,7 @@ use lib.ListN.{length, getD, set, replicate, length-set, length-replicate}
 use lib.Seq.{getD-set-same, getD-set-other}
 use borrow.Author.Tests.{eq-eqb, ne-eqb, lt-ltb, le-ltb}
 use Rattle.laws.proofs.Cases.{cases, eq-or}
-use Rattle.fans.specs.Nesting.{Tabulated, rank-of, rank-in, Rankable, side-in}
+use Rattle.fans.specs.Nesting.{Tabulated, rank-of, rank-in, Nestable, side-in}
 
 pub record Tabulating (f : ℕ → ℕ) (m : ℕ) (table : List ℕ) (k : ℕ) : Type 0 where
   pub upto : k ≤ m
@@ -41,7 +41,7 @@ rank-more low high h = rw (lt-ltb low high h)
 pub rank-one : (low high : ℕ) → high ≤ low → 2 * low ≡ rank-of low high
 rank-one low high h = rw (le-ltb low high h) (omega arith)
 
-module _ (m : ℕ) (lows highs : List ℕ) (R : Rankable m lows highs) (ranks : List ℕ) (k : ℕ) (T : Tabulating (rank-in lows highs) m ranks k) (h : k < m)
+module _ (m : ℕ) (lows highs : List ℕ) (R : Nestable m lows highs) (ranks : List ℕ) (k : ℕ) (T : Tabulating (rank-in lows highs) m ranks k) (h : k < m)
     (a : ℕ) (is-a : (a ≡ getD lows k 0) × (a < 65536)) where
   pub ranking-low : a < 512
   ranking-low = omega (arith, R .small k h, is-a .0)

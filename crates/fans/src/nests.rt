@@ -1,13 +1,14 @@
 // The rank of each line, by which the lines that leave a vertex nest, and the side of each line.
 ghost use mathlib.Core.Path.{_≡_};
 ghost use Prim.Native.Nat.{ℕ, _+_, _*_, _<_};
-ghost use Rattle.fans.specs.Nesting.{Tabulated, «rank-of», «rank-in», Rankable, «side-in», Sidable};
+ghost use Rattle.fans.specs.Nesting.{Tabulated, «rank-of», «rank-in», Nestable, «side-in», Sidable};
+use network::Kind;
 use network::wide;
 use side::Side;
 
 // By low, and at equal low those whose returns end at one height before those with more.
 pub fn ranked(lines: usize, lows: &[u16], highs: &[u16]) -> [u16; 2048]
-    requires { ⌜ Rankable lines (now lows) (now highs) ⌝ }
+    requires { ⌜ Nestable lines (now lows) (now highs) ⌝ }
     ensures { λ r. ⌜ Tabulated (rank-in (now (lows .entry)) (now (highs .entry))) lines r ⌝ }
 {
     let mut ranks = [0u16; 2048];
@@ -45,7 +46,7 @@ fn side(lines: usize, k: usize, kinds: &[u8], tops: &[u16], choice: &[u8]) -> u8
     requires { ⌜ k < lines ⌝ }
     ensures { λ r. ⌜ r ≡ side-in lines (now (kinds .entry)) (now (tops .entry)) (now (choice .entry)) k ⌝ }
 {
-    if kinds[k] == 0 {
+    if kinds[k] == Kind::TREE {
         let t = wide(tops[k]);
         if t < lines {
             return choice[t];

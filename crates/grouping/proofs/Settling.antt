@@ -20,7 +20,7 @@ use Rattle.returns.specs.declared.Forks.{Forks}
 use Rattle.fork.proofs.Links.{overlap-tree, overlap-turned}
 use Rattle.fork.proofs.Rule.{fork-turned}
 use Rattle.groups.specs.Groups.{Tables, tables}
-use Rattle.groups.specs.Calls.{Room, Started}
+use Rattle.groups.specs.Calls.{Room, Unjoined}
 use Rattle.groups.proofs.Answers.{grouped-start}
 use Rattle.ties.specs.Inside.{Closed, Outcome, obeyed, unkept, Crossed}
 use Rattle.ties.specs.declared.Tie.{Tie}
@@ -97,7 +97,7 @@ module _ {n m : ℕ} {ends kinds heights parents : List ℕ} (known : Known n m 
   one-back : (b : ℕ) → b < m → backb S b ≡ false → getD kinds b 0 ≡ 1 → ⊥
   one-back b h e z = true-false (both-yes (lt-ltb _ _ (known .every b h)) (ap not (ne-eqb _ _ (λ (y : getD kinds b 0 ≡ 0). omega arith)))) e
 
-  pub start-begun : (leader parity from to : List ℕ) → Started m kinds leader parity from to → Room m leader parity from to → Begun S leader parity from to
+  pub start-begun : (leader parity from to : List ℕ) → Unjoined m kinds leader parity from to → Room m leader parity from to → Begun S leader parity from to
   start-begun leader parity from to s room =
       record { room = room; groups = none-together S (tables leader parity from to) (grouped-start m (backb S) kinds leader parity from to back-one one-back s) }
 

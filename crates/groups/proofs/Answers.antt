@@ -5,12 +5,13 @@ use mathlib.Core.Path.{_≡_, sym, _∙_, subst}
 use Prim.Native.Nat.{ℕ, _≤_, _<_}
 use native.Mathlib.Omega.{arith}
 use lib.ListN.{length}
-use Rattle.groups.specs.Order.{at, Agree, First, Next, Last}
-use Rattle.groups.specs.Constraints.{Constraints, Between, More, Keeps, BackLine, Obeys, Ring}
+use Rattle.laws.specs.Lists.{at, Agree}
+use Rattle.laws.specs.Dictionary.{First, Next, Last}
+use Rattle.laws.proofs.Dictionary.{first-agree}
+use Rattle.groups.specs.Constraints.{Constraints, Between, More, Keeps, Sided, Satisfies}
 use Rattle.groups.specs.Groups.{Tables, tables, Grouped}
-use Rattle.groups.specs.Calls.{Room, Started, Joinable, joined, Reading, Copied, Advanced, Stuck}
+use Rattle.groups.specs.Calls.{Room, Unjoined, Joinable, joined, Reading, Copied, Advanced, Stuck}
 use Rattle.groups.specs.declared.Joining.the-variants.{Agrees, Conflicts, Joins}
-use Rattle.groups.proofs.Order.{first-agree}
 use Rattle.groups.proofs.Groups.{None, grouped-none, grouped-agrees, grouped-joined, conflict}
 use Rattle.groups.proofs.Choosing.{parity-first, parity-obeys, turned-next, no-pivot-last}
 
@@ -18,7 +19,7 @@ use Rattle.groups.proofs.Choosing.{parity-first, parity-obeys, turned-n
 
 pub grouped-start : (lines : ℕ) (back : ℕ → Bool) (kinds leader parity from to : List ℕ)
     → ((b : ℕ) → b < lines → back b ≡ true → at kinds b ≡ 1) → ((b : ℕ) → b < lines → back b ≡ false → at kinds b ≡ 1 → ⊥)
-    → Started lines kinds leader parity from to → Grouped lines back None (tables leader parity from to)
+    → Unjoined lines kinds leader parity from to → Grouped lines back None (tables leader parity from to)
 grouped-start lines back kinds leader parity from to yes′ no′ s =
     grouped-none lines back (tables leader parity from to)
     (record {
@@ -29,7 +30,7 @@ grouped-start lines back kinds leader parity from to yes′ no′ s =
 
 -- Taking in a constraint
 
-module _ (lines : ℕ) (back : ℕ → Bool) (P : Constraints) (b d kind : ℕ) (hb : BackLine lines back b) (hd : BackLine lines back d) where
+module _ (lines : ℕ) (back : ℕ → Bool) (P : Constraints) (b d kind : ℕ) (hb : Sided lines back b) (hd : Sided lines back d) where
   pub joinable : (leader parity from to : List ℕ) → Grouped lines back P (tables leader parity from to) → Room lines leader parity from to
       → Joinable lines b d kind leader parity from to
   joinable leader parity from to g r =
@@ -51,7 +52,7 @@ module _ (lines : ℕ) (back : ℕ → Bool) (P : Constraints) (leader parity fr
   pub reading : (choice : List ℕ) → Room lines leader parity from to → lines ≤ length choice → Reading lines leader parity choice
   reading choice r h = record { leaders = r .leaders; parities = r .parities; bytes = h; inside = λ x o. omega (arith, g .low x o) }
 
-  obeys-agree : (c d : ℕ → ℕ) → Agree lines d c → Obeys lines back P c → Obeys lines back P d
+  obeys-agree : (c d : ℕ → ℕ) → Agree lines d c → Satisfies lines back P c → Satisfies lines back P d
   obeys-agree c d a o =
       record {
         tree = λ b h f. a b h ∙ o .tree b h f;
@@ -59,16 +60,16 @@ module _ (lines : ℕ) (back : ℕ → Bool) (P : Constraints) (leader parity fr
         kept = λ b e k p. let q = g .ends b e k p in omega (arith, a b (q .0 .within), a e (q .1 .within), o .kept b e k p);
       }
 
-  pub copied-first : (choice choice′ : List ℕ) → Copied lines parity choice choice′ → First lines (Obeys lines back P) (at choice′)
+  pub copied-first : (choice choice′ : List ℕ) → Copied lines parity choice choice′ → First lines (Satisfies lines back P) (at choice′)
   copied-first choice choice′ c =
-      first-agree lines (Obeys lines back P) (at parity) (at choice′) (parity-first lines back P (tables leader parity from to) g)
+      first-agree lines (Satisfies lines back P) (at parity) (at choice′) (parity-first lines back P (tables leader parity from to) g)
       (obeys-agree (at parity) (at choice′) (c .bytes) (parity-obeys lines back P (tables leader parity from to) g))
       (λ b h. sym (c .bytes b h))
 
-  module _ (choice choice′ : List ℕ) (o : Obeys lines back P (at choice)) where
-    pub advanced-next : Advanced lines leader parity choice choice′ → Next lines (Obeys lines back P) (at choice) (at choice′)
+  module _ (choice choice′ : List ℕ) (o : Satisfies lines back P (at choice)) where
+    pub advanced-next : Advanced lines leader parity choice choice′ → Next lines (Satisfies lines back P) (at choice) (at choice′)
     advanced-next a =
         turned-next lines back P (tables leader parity from to) g (at choice) (at choice′) (a .pivot) o (a .highest) (a .turned .bytes)
 
-    pub stuck-last : Stuck lines leader choice choice′ → Last lines (Obeys lines back P) (at choice)
+    pub stuck-last : Stuck lines leader choice choice′ → Last lines (Satisfies lines back P) (at choice)
     stuck-last s = no-pivot-last lines back P (tables leader parity from to) g (at choice) o (s .none)

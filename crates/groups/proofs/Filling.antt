@@ -11,16 +11,16 @@ use lib.ListN.{length, set, length-set}
 use lib.Seq.{getD-set-same, getD-set-other}
 use borrow.Author.Tests.{eq-eqb, ne-eqb, lt-leb, le-leb, not-true, not-false}
 use Rattle.laws.specs.Tests.{both, all}
+use Rattle.laws.specs.Lists.{at, Past}
 use Rattle.laws.proofs.Cases.{cases, eq-or, bool, true-false}
 use Rattle.laws.proofs.Tests.{all-yes, all-of}
 use Rattle.side.specs.Sides.{opposite}
 use Rattle.side.proofs.Opposite.{opposite-left, opposite-other}
-use Rattle.groups.specs.Order.{at}
-use Rattle.groups.specs.Groups.{Put, Relabelled, Recoloured, fitb, fitsb}
-use Rattle.groups.specs.Calls.{Past, Numbered, Level, Levelled, Moved, Flipped, Copied, Sought, Rewritten, Advanced, Stuck, Reading, Wide}
+use Rattle.groups.specs.Groups.{PutAt, Relabelled, Recoloured, fitb, fitsb}
+use Rattle.groups.specs.Calls.{OwnNumbers, BaseParity, Levelled, Moved, Flipped, Copied, Sought, Rewritten, Advanced, Stuck, Reading, Wide}
 use Rattle.groups.proofs.Choosing.{pivot-more, no-pivot-more, pivot-here}
 
-pub put-at : (l : List ℕ) (v x : ℕ) → v < length l → Put (at l) v x (at (set l v x))
+pub put-at : (l : List ℕ) (v x : ℕ) → v < length l → PutAt (at l) v x (at (set l v x))
 put-at l v x h = record { here = getD-set-same l v x 0 h; there = λ b e. getD-set-other l v b x 0 e }
 
 pub record Filled (P : ℕ → ℕ → Type 0) (n i : ℕ) (old new : List ℕ) : Type 0 where
@@ -60,17 +60,17 @@ module _ (lines b : ℕ) (old l : List ℕ) (f : Filled Own lines b old l) where
   unfolding Own
   own-more h = filled-more f h refl
 
-  pub numbered : lines ≤ b → Numbered lines l
+  pub numbered : lines ≤ b → OwnNumbers lines l
   unfolding Own
   numbered h = record { own = filled-all Own lines b old l f h }
 
 -- 0 or 2
 
 unfoldable pub Levels : List ℕ → ℕ → ℕ → Type 0
-Levels kinds j v = Level (at kinds j) v
+Levels kinds j v = BaseParity (at kinds j) v
 
 module _ (lines b : ℕ) (kinds old l : List ℕ) (f : Filled (Levels kinds) lines b old l) where
-  pub levels-more : (v : ℕ) → b < lines → Level (at kinds b) v → Filled (Levels kinds) lines (b + 1) old (set l b v)
+  pub levels-more : (v : ℕ) → b < lines → BaseParity (at kinds b) v → Filled (Levels kinds) lines (b + 1) old (set l b v)
   unfolding Levels
   levels-more v h q = filled-more f h q
 

@@ -6,7 +6,7 @@ use mathlib.Core.Path.{_≡_, refl, sym, _∙_, ap, subst}
 use Prim.Native.Nat.{ℕ, _+_, _%_, _≤_, _<_}
 use native.Mathlib.Omega.{arith}
 use Rattle.laws.proofs.Cases.{cases, true-false, eq-or}
-use Rattle.groups.specs.Constraints.{Constraints, More, Even, Keeps, BackLine}
+use Rattle.groups.specs.Constraints.{Constraints, More, Even, Keeps, Sided}
 use Rattle.groups.specs.Groups.{Tables, Joins, Way, stay, onward, Grouped, Merged}
 use Rattle.groups.proofs.Ways.{way-append, way-turn, way-map}
 
@@ -27,7 +27,7 @@ grouped-none lines back t s =
       low = λ b h. omega (arith, s .alone b h .0);
       home = λ b h. ap (t .leader) (s .alone b h .0);
       tree = λ b h f. (s .alone b h .0, s .trees b h f);
-      kin = λ b h. subst (λ (x : ℕ). BackLine lines back x) (sym (s .alone b (h .within) .0)) h;
+      kin = λ b h. subst (λ (x : ℕ). Sided lines back x) (sym (s .alone b (h .within) .0)) h;
       side = λ b h. omega (arith, s .backs b (h .within) (h .is-back));
       base = λ b h e. s .backs b (h .within) (h .is-back);
       ends = λ b d k p. absurd p;
@@ -62,17 +62,17 @@ grouped-same lines back P Q t f f′ g =
     }
 
 module _ (lines : ℕ) (back : ℕ → Bool) (P : Constraints) (t : Tables) (g : Grouped lines back P t)
-    (b d k : ℕ) (hb : BackLine lines back b) (hd : BackLine lines back d) where
+    (b d k : ℕ) (hb : Sided lines back b) (hd : Sided lines back d) where
   keeps-old : (s : ℕ → ℕ) → Keeps (More P b d k) s → Keeps P s
   keeps-old s q x y z p = q x y z (inl p)
 
   keeps-new : (s : ℕ → ℕ) → Keeps (More P b d k) s → Even (s b + s d + k)
   keeps-new s q = q b d k (inr (refl, refl, refl))
 
-  more-ends : (x y z : ℕ) → More P b d k x y z → BackLine lines back x × BackLine lines back y
+  more-ends : (x y z : ℕ) → More P b d k x y z → Sided lines back x × Sided lines back y
   more-ends x y z m =
       cases m (g .ends x y z)
-      (λ e. (subst (λ (w : ℕ). BackLine lines back w) (sym (e .0)) hb, subst (λ (w : ℕ). BackLine lines back w) (sym (e .1)) hd))
+      (λ e. (subst (λ (w : ℕ). Sided lines back w) (sym (e .0)) hb, subst (λ (w : ℕ). Sided lines back w) (sym (e .1)) hd))
 
   -- a constraint that agrees, or that no choice can keep
   pub grouped-agrees : t .leader b ≡ t .leader d → Even (t .parity b + t .parity d + k) → Grouped lines back (More P b d k) t
@@ -106,13 +106,13 @@ module _ (lines : ℕ) (back : ℕ → Bool) (P : Constraints) (t : Tables) (g :
     turn = (t .parity b + t .parity d + k) % 2
 
     -- the two leaders
-    low-led : (t .leader low ≡ low) × BackLine lines back low
+    low-led : (t .leader low ≡ low) × Sided lines back low
     low-led =
         cases who
         (λ w. (rw (← w .0) (g .home b (hb .within)), rw (← w .0) (g .kin b hb)))
         (λ w. (rw (← w .1) (g .home d (hd .within)), rw (← w .1) (g .kin d hd)))
 
-    high-led : (t .leader high ≡ high) × BackLine lines back high
+    high-led : (t .leader high ≡ high) × Sided lines back high
     high-led =
         cases who
         (λ w. (rw (← w .1) (g .home d (hd .within)), rw (← w .1) (g .kin d hd)))
@@ -153,19 +153,19 @@ module _ (lines : ℕ) (back : ℕ → Bool) (P : Constraints) (t : Tables) (g :
         (λ o. true-false (high-led .1 .is-back) (ap back (sym (o .was) ∙ q .0) ∙ f))
         (λ o. (o .now ∙ q .0, o .parity ∙ q .1))
 
-    joined-kin : (x : ℕ) → BackLine lines back x → BackLine lines back (t′ .leader x)
+    joined-kin : (x : ℕ) → Sided lines back x → Sided lines back (t′ .leader x)
     joined-kin x h = cases (over-or x (h .within)) (λ o. rw (o .now) (low-led .1)) (λ o. rw (o .now) (g .kin x h))
 
-    joined-side : (x : ℕ) → BackLine lines back x → t′ .parity x ≤ 1
+    joined-side : (x : ℕ) → Sided lines back x → t′ .parity x ≤ 1
     joined-side x h = cases (over-or x (h .within)) (λ o. omega (arith, o .turned)) (λ o. omega (arith, o .parity, g .side x h))
 
-    joined-base : (x : ℕ) → BackLine lines back x → t′ .leader x ≡ x → t′ .parity x ≡ 0
+    joined-base : (x : ℕ) → Sided lines back x → t′ .leader x ≡ x → t′ .parity x ≡ 0
     joined-base x h e =
         cases (over-or x (h .within))
         (λ o. absurd (omega (arith, ap (t .leader) (sym (o .now) ∙ e), low-led .0, o .was)))
         (λ o. o .parity ∙ g .base x h (sym (o .now) ∙ e))
 
-    joined-told : (s : ℕ → ℕ) → Keeps (More P b d k) s → (x : ℕ) → BackLine lines back x → Even (s (t′ .leader x) + s x + t′ .parity x)
+    joined-told : (s : ℕ → ℕ) → Keeps (More P b d k) s → (x : ℕ) → Sided lines back x → Even (s (t′ .leader x) + s x + t′ .parity x)
     joined-told s q x h =
         let old = keeps-old s q in
         let new = keeps-new s q in
@@ -182,7 +182,7 @@ module _ (lines : ℕ) (back : ℕ → Bool) (P : Constraints) (t : Tables) (g :
         (λ o. omega (arith, ap s (o .now), o .parity))
 
     -- two lines of one group, old or new
-    together : (x y z : ℕ) → BackLine lines back x → BackLine lines back y → t .leader x ≡ t .leader y → Even (t .parity x + t .parity y + z)
+    together : (x y z : ℕ) → Sided lines back x → Sided lines back y → t .leader x ≡ t .leader y → Even (t .parity x + t .parity y + z)
         → (t′ .leader x ≡ t′ .leader y) × Even (t′ .parity x + t′ .parity y + z)
     together x y z hx hy l e =
         cases (over-or x (hx .within))
@@ -260,7 +260,7 @@ module _ (lines : ℕ) (back : ℕ → Bool) (P : Constraints) (t : Tables) (g :
     new-step : Joins lines (t′ .from) (t′ .to) b d
     new-step = record { place = high; within = high-led .1 .within; is-from = m .from .here; is-to = m .to .here }
 
-    old-way : (x : ℕ) → BackLine lines back x → Way (Joins lines (t′ .from) (t′ .to)) (t .leader x) x
+    old-way : (x : ℕ) → Sided lines back x → Way (Joins lines (t′ .from) (t′ .to)) (t .leader x) x
     old-way x h = way-map old-step (g .way x h)
 
     -- from `low` by the new step to `high`
@@ -270,7 +270,7 @@ module _ (lines : ℕ) (back : ℕ → Bool) (P : Constraints) (t : Tables) (g :
         (λ w. rw (← w .0, ← w .1) (way-append (onward (old-way b hb) (inl new-step)) (way-turn (old-way d hd))))
         (λ w. rw (← w .0, ← w .1) (way-append (onward (old-way d hd) (inr new-step)) (way-turn (old-way b hb))))
 
-    joined-way : (x : ℕ) → BackLine lines back x → Way (Joins lines (t′ .from) (t′ .to)) (t′ .leader x) x
+    joined-way : (x : ℕ) → Sided lines back x → Way (Joins lines (t′ .from) (t′ .to)) (t′ .leader x) x
     joined-way x h =
         cases (over-or x (h .within))
         (λ o. rw (o .now) (way-append bridge (rw (o .was) at (old-way x h))))

@@ -1,5 +1,4 @@
 -- The laws of choices and constraints, and what the functions' contracts mean (Answers). The rest serves the proofs of the functions.
-pub mod Order
 pub mod Listing
 pub mod Ways
 pub mod Groups

@@ -5,7 +5,7 @@ use mathlib.Core.Path.{_≡_, refl}
 use Prim.Native.Nat.{ℕ, _+_, _%_, _≤_, _<_}
 use native.Mathlib.Omega.{arith}
 use lib.ListN.{set}
-use Rattle.groups.specs.Order.{at}
+use Rattle.laws.specs.Lists.{at}
 use Rattle.groups.specs.Groups.{tables, Relabelled, Merged}
 use Rattle.groups.specs.Calls.{Wide, Joinable, Mergeable, Joined}
 use Rattle.groups.proofs.Filling.{put-at}

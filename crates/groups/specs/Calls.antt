@@ -5,7 +5,7 @@ use mathlib.Core.Logic.{_⊎_}
 use mathlib.Core.Path.{_≡_}
 use Prim.Native.Nat.{ℕ, _+_, _%_, _≤_, _<_}
 use lib.ListN.{length}
-use Rattle.groups.specs.Order.{at, Agree}
+use Rattle.laws.specs.Lists.{at, Agree, Past}
 use Rattle.groups.specs.Constraints.{Even}
 use Rattle.groups.specs.Groups.{Tables, Merged, Turned, Pivot, NoPivot}
 use Rattle.groups.specs.declared.Joining.{Joining}
@@ -24,28 +24,24 @@ pub record Room (lines : ℕ) (leader parity from to : List ℕ) : Type 0 where
   pub froms : lines ≤ length from
   pub tos : lines ≤ length to
 
--- What lies past the lines is as it was.
-abbrev pub Past : ℕ → List ℕ → List ℕ → Type 0
-Past lines old new = (j : ℕ) → lines ≤ j → at new j ≡ at old j
-
 -- Each line has its own number.
-pub record Numbered (lines : ℕ) (l : List ℕ) : Type 0 where
+pub record OwnNumbers (lines : ℕ) (l : List ℕ) : Type 0 where
   pub own : (b : ℕ) → b < lines → at l b ≡ b
 
 -- A back line, of the kind 1, has 0, and any other line 2.
-pub record Level (kind parity : ℕ) : Type 0 where
+pub record BaseParity (kind parity : ℕ) : Type 0 where
   pub back : kind ≡ 1 → parity ≡ 0
   pub other : (kind ≡ 1 → ⊥) → parity ≡ 2
 
 pub record Levelled (lines : ℕ) (kinds parity : List ℕ) : Type 0 where
-  pub each : (b : ℕ) → b < lines → Level (at kinds b) (at parity b)
+  pub each : (b : ℕ) → b < lines → BaseParity (at kinds b) (at parity b)
 
 -- The tables at the start.
-pub record Started (lines : ℕ) (kinds leader parity from to : List ℕ) : Type 0 where
-  pub leaders : Numbered lines leader
+pub record Unjoined (lines : ℕ) (kinds leader parity from to : List ℕ) : Type 0 where
+  pub leaders : OwnNumbers lines leader
   pub parities : Levelled lines kinds parity
-  pub froms : Numbered lines from
-  pub tos : Numbered lines to
+  pub froms : OwnNumbers lines from
+  pub tos : OwnNumbers lines to
 
 -- A number is put for `high`, and any other stays.
 pub record Moved (l low high l′ : ℕ) : Type 0 where

@@ -7,8 +7,8 @@ use mathlib.Core.Path.{_≡_}
 use Prim.Native.Nat.{ℕ, _+_, _-_, _%_, _≤_, _<_}
 use lib.Dec.{eqb, leb}
 use Rattle.laws.specs.Tests.{both, all}
-use Rattle.groups.specs.Order.{at}
-use Rattle.groups.specs.Constraints.{Constraints, Even, Keeps, BackLine}
+use Rattle.laws.specs.Lists.{at}
+use Rattle.groups.specs.Constraints.{Constraints, Even, Keeps, Sided}
 
 -- By lines: the leader of its group; its side where the leader is left, with 2 at a tree line; and the two lines of the constraint that joined
 -- the group it led to another, both the line itself where there is none.
@@ -40,22 +40,22 @@ pub record Grouped (lines : ℕ) (back : ℕ → Bool) (P : Constraints) (t : Ta
   pub home : (b : ℕ) → b < lines → t .leader (t .leader b) ≡ t .leader b
   -- a tree line is in no group but its own
   pub tree : (b : ℕ) → b < lines → back b ≡ false → (t .leader b ≡ b) × (t .parity b ≡ 2)
-  pub kin : (b : ℕ) → BackLine lines back b → BackLine lines back (t .leader b)
-  pub side : (b : ℕ) → BackLine lines back b → t .parity b ≤ 1
-  pub base : (b : ℕ) → BackLine lines back b → t .leader b ≡ b → t .parity b ≡ 0
+  pub kin : (b : ℕ) → Sided lines back b → Sided lines back (t .leader b)
+  pub side : (b : ℕ) → Sided lines back b → t .parity b ≤ 1
+  pub base : (b : ℕ) → Sided lines back b → t .leader b ≡ b → t .parity b ≡ 0
   -- each constraint is within a group, and the parities are as it wants them
-  pub ends : (b d k : ℕ) → P b d k → BackLine lines back b × BackLine lines back d
+  pub ends : (b d k : ℕ) → P b d k → Sided lines back b × Sided lines back d
   pub closed : (b d k : ℕ) → P b d k → (t .leader b ≡ t .leader d) × Even (t .parity b + t .parity d + k)
   -- sides that keep the constraints are told by those of the leaders
-  pub told : (s : ℕ → ℕ) → Keeps P s → (b : ℕ) → BackLine lines back b → Even (s (t .leader b) + s b + t .parity b)
+  pub told : (s : ℕ → ℕ) → Keeps P s → (b : ℕ) → Sided lines back b → Even (s (t .leader b) + s b + t .parity b)
   -- the constraints that joined groups lead from a leader to every line of its group
   pub inside : (x : ℕ) → x < lines → (t .from x < lines) × (t .to x < lines)
   pub idle : (x : ℕ) → x < lines → t .leader x ≡ x → t .from x ≡ t .to x
   pub taken : (x : ℕ) → x < lines → (t .from x ≡ t .to x) ⊎ P (t .from x) (t .to x) ((t .parity (t .from x) + t .parity (t .to x)) % 2)
-  pub way : (b : ℕ) → BackLine lines back b → Way (Joins lines (t .from) (t .to)) (t .leader b) b
+  pub way : (b : ℕ) → Sided lines back b → Way (Joins lines (t .from) (t .to)) (t .leader b) b
 
 -- g is f with x at v.
-pub record Put (f : ℕ → ℕ) (v x : ℕ) (g : ℕ → ℕ) : Type 0 where
+pub record PutAt (f : ℕ → ℕ) (v x : ℕ) (g : ℕ → ℕ) : Type 0 where
   pub here : g v ≡ x
   pub there : (b : ℕ) → (b ≡ v → ⊥) → g b ≡ f b
 
@@ -70,8 +70,8 @@ pub record Relabelled (lines low high turn : ℕ) (leader parity leader′ parit
 -- The group of `high` is given to `low` by a constraint between b and d.
 pub record Merged (lines low high turn b d : ℕ) (t t′ : Tables) : Type 0 where
   pub groups : Relabelled lines low high turn (t .leader) (t .parity) (t′ .leader) (t′ .parity)
-  pub from : Put (t .from) high b (t′ .from)
-  pub to : Put (t .to) high d (t′ .to)
+  pub from : PutAt (t .from) high b (t′ .from)
+  pub to : PutAt (t .to) high d (t′ .to)
 
 -- The new byte z of a line with the leader l, the parity y and the byte x, where the group of r is turned: the groups of lower leaders are kept, and
 -- those of higher leaders begin anew.

@@ -6,9 +6,9 @@ pub mod choice; // the first choice, the next choice, the test of a choice
 ghost use mathlib.Core.Path.{_≡_};
 ghost use Prim.Native.Nat.{ℕ, _+_, _%_, _≤_, _<_};
 ghost use lib.ListN.{length};
-ghost use Rattle.groups.specs.Order.{at};
+ghost use Rattle.laws.specs.Lists.{at};
 ghost use Rattle.groups.specs.Groups.{tables, Relabelled, Merged};
-ghost use Rattle.groups.specs.Calls.{Wide, Room, Numbered, Level, Levelled, Started, Moved, Flipped, Joinable, Mergeable, joined};
+ghost use Rattle.groups.specs.Calls.{Wide, Room, OwnNumbers, BaseParity, Levelled, Unjoined, Moved, Flipped, Joinable, Mergeable, joined};
 use side::Side;
 
 // What taking in a constraint came to.
@@ -31,7 +31,7 @@ pub fn start(
     to: &mut [u16],
 )
     requires { ⌜ Room lines (now leader) (now parity) (now from) (now to) × (lines ≤ length (now kinds)) ⌝ }
-    ensures { λ _. ⌜ Started lines (now (kinds .entry)) (now (leader .exit)) (now (parity .exit)) (now (from .exit)) (now (to .exit)) ⌝ }
+    ensures { λ _. ⌜ Unjoined lines (now (kinds .entry)) (now (leader .exit)) (now (parity .exit)) (now (from .exit)) (now (to .exit)) ⌝ }
 {
     number(lines, leader);
     level(lines, kinds, parity);
@@ -89,7 +89,7 @@ pub fn odd(x: u8, y: u8, kind: u8) -> u8
 // Writes each line's own number.
 fn number(lines: usize, table: &mut [u16])
     requires { ⌜ (lines ≤ 2048) × (lines ≤ length (now table)) ⌝ }
-    ensures { λ _. ⌜ Numbered lines (now (table .exit)) ⌝ }
+    ensures { λ _. ⌜ OwnNumbers lines (now (table .exit)) ⌝ }
 {
     let mut b = 0;
     while b < lines {
@@ -100,7 +100,7 @@ fn number(lines: usize, table: &mut [u16])
 
 // The parity of a line by itself.
 fn alone(kind: u8) -> u8
-    ensures { λ r. ⌜ Level kind r ⌝ }
+    ensures { λ r. ⌜ BaseParity kind r ⌝ }
 {
     if kind == 1 {
         return Side::LEFT;

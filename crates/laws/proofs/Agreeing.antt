@@ -4,7 +4,7 @@ use mathlib.Core.Path.{_≡_, refl, sym, _∙_, ap, subst}
 use Prim.Native.Nat.{ℕ, zero, suc, _<_, min}
 use native.Mathlib.Omega.{arith}
 use Rattle.laws.specs.Counting.{count}
-use Rattle.laws.specs.Orbits.{lowest-on, leads, number, walks}
+use Rattle.laws.specs.Orbits.{lowest-on, leads, walk-number, walks}
 use Rattle.laws.proofs.Cases.{cases, bool}
 use Rattle.laws.proofs.Counting.{count-same}
 use Rattle.laws.proofs.Orbits.{In, Turn, lowest-stays}
@@ -31,7 +31,7 @@ module _ (n : ℕ) (on on′ : ℕ → Bool) (f g : ℕ → ℕ) (T : Turn n on 
       (λ t. rw (t, sym (same-on x h) ∙ t, lowest-agree n x (record { below = h; yes = t })))
       (λ t. rw (t, sym (same-on x h) ∙ t))
 
-  pub number-agree : (x : ℕ) → In n on x → number on f n x ≡ number on′ g n x
+  pub number-agree : (x : ℕ) → In n on x → walk-number on f n x ≡ walk-number on′ g n x
   number-agree x h =
       ap (count (leads on f n)) (lowest-agree n x h)
       ∙ count-same (leads on f n) (leads on′ g n) (lowest-on g n x)

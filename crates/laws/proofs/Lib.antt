@@ -2,6 +2,7 @@ pub mod Cases
 pub mod Tests
 pub mod Counting
 pub mod Lists
+pub mod Dictionary
 pub mod Occurring
 pub mod Checks
 pub mod Filling

@@ -5,7 +5,7 @@ use mathlib.Core.Logic.{_⊎_, inr}
 use Prim.Native.Nat.{ℕ, suc, _-_, _≤_, _<_}
 use native.Mathlib.Omega.{arith}
 use Rattle.laws.specs.Counting.{count}
-use Rattle.laws.specs.Orbits.{walk, lowest-on, leads, number, walks}
+use Rattle.laws.specs.Orbits.{walk, lowest-on, leads, walk-number, walks}
 use Rattle.laws.proofs.Cases.{cases, bool, true-false, eq-or, lt-or}
 use Rattle.laws.proofs.Counting.{count-zero, count-yes, count-no}
 use Rattle.laws.proofs.Orbits.{count-few, find, In, Turn, walk-stays, lowest-walk, leads-lowest, leads-both, leads-new, number-below, meets-start, all-met}
@@ -19,14 +19,14 @@ module _ (n : ℕ) (on : ℕ → Bool) (f : ℕ → ℕ) (none : ℕ) where
   -- the walks with a lowest below d have their numbers
   pub record Done (d c : ℕ) (t : ℕ → ℕ) : Type 0 where
     pub counted : c ≡ count (leads on f n) d
-    pub given : (x : ℕ) → In n on x → lowest-on f n x < d → t x ≡ number on f n x
+    pub given : (x : ℕ) → In n on x → lowest-on f n x < d → t x ≡ walk-number on f n x
     pub free : (x : ℕ) → In n on x → d ≤ lowest-on f n x → t x ≡ none
 
   -- .. and k steps of d's walk
   pub record Going (d c k : ℕ) (t : ℕ → ℕ) : Type 0 where
     pub leader : lowest-on f n d ≡ d
     pub counted : c ≡ count (leads on f n) d
-    pub given : (x : ℕ) → In n on x → lowest-on f n x < d → t x ≡ number on f n x
+    pub given : (x : ℕ) → In n on x → lowest-on f n x < d → t x ≡ walk-number on f n x
     pub made : (i : ℕ) → i < k → t (walk f i d) ≡ c
     pub free : (x : ℕ) → In n on x → d ≤ lowest-on f n x → ((i : ℕ) → i < k → walk f i d ≡ x → ⊥) → t x ≡ none
     pub fresh : (i j : ℕ) → i < j → j < k → walk f i d ≡ walk f j d → ⊥
@@ -35,7 +35,7 @@ module _ (n : ℕ) (on : ℕ → Bool) (f : ℕ → ℕ) (none : ℕ) where
     walks-few : walks on f n ≤ n
     walks-few = count-few (leads on f n) n
 
-    number-none : (x : ℕ) → In n on x → number on f n x ≡ none → ⊥
+    number-none : (x : ℕ) → In n on x → walk-number on f n x ≡ none → ⊥
     number-none x h e = omega (arith, number-below n on f T x h, walks-few)
 
     pub start : (t : ℕ → ℕ) → ((x : ℕ) → In n on x → t x ≡ none) → Done 0 0 t
@@ -82,7 +82,7 @@ module _ (n : ℕ) (on : ℕ → Bool) (f : ℕ → ℕ) (none : ℕ) where
             (λ r. meets-start n on f T (λ x. ⊥) (λ x hx m. m) d (suc k) h (λ m. m) (G .fresh) (inr r))
             (λ u. absurd (e (G .free (walk f (suc k) d) (walk-stays n on f T (suc k) d h) (let z = lowest-walk n on f T (suc k) d h in omega (arith, G .leader)) u)))
 
-        given : (x : ℕ) → In n on x → lowest-on f n x < suc d → t x ≡ number on f n x
+        given : (x : ℕ) → In n on x → lowest-on f n x < suc d → t x ≡ walk-number on f n x
         given x hx l =
             cases (lt-or (lowest-on f n x) d)
             (λ g. G .given x hx g)

@@ -9,7 +9,7 @@ use native.Mathlib.Nat.{zero-add, suc-add}
 use lib.Dec.{eqb}
 use borrow.Author.Tests.{eq-eqb, eqb-true}
 use Rattle.laws.specs.Counting.{count}
-use Rattle.laws.specs.Orbits.{walk, lowest-on, leads, number, walks}
+use Rattle.laws.specs.Orbits.{walk, lowest-on, leads, walk-number, walks}
 use Rattle.laws.proofs.Cases.{cases, bool, true-false, eq-or, lt-or}
 use Rattle.laws.proofs.Counting.{count-yes, count-no, count-zero, count-all, count-le, count-eq}
 
@@ -268,13 +268,13 @@ module _ (n : ℕ) (on : ℕ → Bool) (f : ℕ → ℕ) (T : Turn n on f) where
       (s .0, s .1, s .2 ∙ r .1)
 
   -- Numbering: the walk of a d that is the lowest of its walk gets the number of the lowest ones before it, and the numbers are below the count.
-  pub number-lead : (d : ℕ) → lowest-on f n d ≡ d → number on f n d ≡ count (leads on f n) d
+  pub number-lead : (d : ℕ) → lowest-on f n d ≡ d → walk-number on f n d ≡ count (leads on f n) d
   number-lead d e = ap (count (leads on f n)) e
 
-  pub number-same : (x y : ℕ) → lowest-on f n x ≡ lowest-on f n y → number on f n x ≡ number on f n y
+  pub number-same : (x y : ℕ) → lowest-on f n x ≡ lowest-on f n y → walk-number on f n x ≡ walk-number on f n y
   number-same x y e = ap (count (leads on f n)) e
 
-  pub number-below : (x : ℕ) → In n on x → number on f n x < walks on f n
+  pub number-below : (x : ℕ) → In n on x → walk-number on f n x < walks on f n
   number-below x h = count-below (leads on f n) (lowest-on f n x) n (lowest-stays x h .below) (leads-lowest x h)
 
   -- a loop over d that numbers whole walks: where the walks with a lowest below d are done and d is not, d leads

@@ -2,6 +2,7 @@
 pub mod Tests
 pub mod Counting
 pub mod Lists
+pub mod Dictionary
 pub mod Checks
 pub mod Running
 pub mod Orbits

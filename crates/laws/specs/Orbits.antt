@@ -19,8 +19,8 @@ abbrev pub leads : (ℕ → Bool) → (ℕ → ℕ) → ℕ → ℕ → Bool
 leads on f n x = cond (on x) (eqb (lowest-on f n x) x) false
 
 -- The number of the walk of x: how many lowest numbers stand below its own.
-abbrev pub number : (ℕ → Bool) → (ℕ → ℕ) → ℕ → ℕ → ℕ
-number on f n x = count (leads on f n) (lowest-on f n x)
+abbrev pub walk-number : (ℕ → Bool) → (ℕ → ℕ) → ℕ → ℕ → ℕ
+walk-number on f n x = count (leads on f n) (lowest-on f n x)
 
 -- How many walks there are.
 abbrev pub walks : (ℕ → Bool) → (ℕ → ℕ) → ℕ → ℕ

@@ -9,10 +9,11 @@ use native.Mathlib.Omega.{arith}
 use lib.Dec.{eqb}
 use borrow.Author.Tests.{eq-eqb, ne-eqb, eqb-true}
 use Rattle.laws.specs.Tests.{both}
+use Rattle.laws.specs.Lists.{Agree}
+use Rattle.laws.specs.Dictionary.{Before, First, Next, Last, Listed, start, more, Listing}
 use Rattle.laws.proofs.Cases.{cases, bool, eq-or, lt-or, true-false}
 use Rattle.laws.proofs.Tests.{both-yes, both-of}
-use Rattle.groups.specs.Order.{Agree, Before, First, Next, Last, Listed, start, more, Listing}
-use Rattle.groups.proofs.Order.{agree-sym, three, never-alike, before-same, first-once, next-once}
+use Rattle.laws.proofs.Dictionary.{agree-sym, three, never-alike, before-same, first-once, next-once}
 
 -- Whatever is good
 

@@ -9,10 +9,11 @@ use lib.Dec.{eqb}
 use lib.ListN.{length}
 use borrow.Author.Tests.{eq-eqb, le-ltb, eqb-true}
 use Rattle.laws.specs.Tests.{both, either, all}
+use Rattle.laws.specs.Lists.{Agree}
 use Rattle.laws.proofs.Cases.{cases, bool, true-false}
 use Rattle.laws.proofs.Tests.{both-yes, both-of, either-first, either-second, either-of, either-no, all-of, all-yes}
 use Rattle.network.specs.Network.{network}
-use Rattle.network.specs.Numbers.{oversize, odd, astray, mispaired, Checked}
+use Rattle.network.specs.Numbers.{oversize, odd, astray, mispaired, Checked, Accepted}
 use Rattle.network.specs.Inside.{Fit}
 use Rattle.network.proofs.Sifting.{fit-when}
 use Rattle.tree.specs.Tree.{Tree}
@@ -21,10 +22,8 @@ use Rattle.side.specs.Sides.{none}
 use Rattle.fork.specs.Fork.{alignedb}
 use Rattle.fork.proofs.Rule.{aligned-yes, aligned-of}
 use Rattle.fork.proofs.Choices.{aligned-agree}
-use Rattle.groups.specs.Order.{Agree}
 use Rattle.choice.specs.Choice.{Proper}
 use Rattle.choice.specs.Calls.{cramped-first, cramped-next}
-use Rattle.listed.specs.Listing.{Accepted}
 
 -- Networks that no check refuses
 

@@ -11,10 +11,13 @@ use lib.ListN.{length, set, length-set, replicate, length-replicate}
 use lib.Seq.{ext-getD, getD-set-same, getD-set-other}
 use borrow.Author.Tests.{ltb-false}
 use Rattle.laws.specs.Checks.{check}
+use Rattle.laws.specs.Lists.{at, Agree, Kept}
+use Rattle.laws.specs.Dictionary.{First, Next, Last, Listed, start, more, Listing}
 use Rattle.laws.proofs.Cases.{cases, bool, lt-or, eq-or}
 use Rattle.laws.proofs.Tests.{either-neither}
+use Rattle.laws.proofs.Dictionary.{agree-sym, before-same, first-agree}
 use Rattle.network.specs.Network.{network}
-use Rattle.network.specs.Numbers.{refused, done}
+use Rattle.network.specs.Numbers.{refused, done, Untouched, triple, Accepted}
 use Rattle.network.specs.declared.Answer.{Answer}
 use Rattle.tree.specs.Tree.{Tree}
 use Rattle.tree.specs.Returns.{backb}
@@ -26,11 +29,9 @@ use Rattle.side.specs.Sides.{none}
 use Rattle.fork.proofs.Rule.{back-of, back-yes}
 use Rattle.fork.proofs.Aligning.{settled, settled-aligned}
 use Rattle.fork.proofs.Choices.{aligned-agree}
-use Rattle.groups.specs.Order.{at, Agree, First, Next, Last, Listed, start, more, Listing}
-use Rattle.groups.proofs.Order.{agree-sym, before-same, first-agree}
 use Rattle.choice.specs.Choice.{Drawable, Proper, Outdone}
-use Rattle.choice.specs.Calls.{Kept, cramped-first, Untouched, Chosen, Ringed, FirstChoice, cramped-next, Unmoved, Stepped, NextChoice}
-use Rattle.listed.specs.Listing.{Accepted, Called, begun, went-on, Lists}
+use Rattle.choice.specs.Calls.{cramped-first, Chosen, Ringed, FirstChoice, cramped-next, Stepped, NextChoice}
+use Rattle.listed.specs.Listing.{Called, begun, went-on, Lists}
 use Rattle.listed.proofs.Granted.{fit, passed, properb, proper-of, proper-yes, proper-agree}
 use Rattle.listed.proofs.Outcomes.{first-by, next-says, next-outdone, next-last, next-by}
 use Rattle.listed.proofs.Enumerating.{next-agree, listed-rising, listed-once, listed-good, listing-by-test}
@@ -48,7 +49,7 @@ module _ (n : ℕ) (ends : List ℕ) where
       → First (length ends / 2) (Proper S) (at c) × (length ends / 2 ≤ length c)
   unfolding cramped-first
   first-zero {choice} {lines} {kinds} {c} {l} {k} {r} f z =
-      let q = passed n ends (λ j some (u : Untouched choice lines kinds r c l k j). absurd (omega (arith, with-number (u .answers)))) f in
+      let q = passed n ends (λ j some (u : Untouched (triple choice lines kinds) r (triple c l k) j). absurd (omega (arith, with-number (u .answers)))) f in
       let room = ltb-false (length choice) (length ends / 2) (either-neither (q .0) .0) in
       go room (q .1)
     where
@@ -60,10 +61,10 @@ module _ (n : ℕ) (ends : List ℕ) where
   pub next-zero : {c d : List ℕ} {r : Answer} → NextChoice n ends c r d → r .number ≡ 0 → Next (length ends / 2) (Proper S) (at c) (at d) × (length ends / 2 ≤ length d)
   unfolding cramped-next
   next-zero {c} {d} {r} f z =
-      let q = passed n ends (λ j some (u : Unmoved c r d j). absurd (omega (arith, with-number (u .answers)))) f in
+      let q = passed n ends (λ j some (u : Untouched c r d j). absurd (omega (arith, with-number (u .answers)))) f in
       go (ltb-false (length c) (length ends / 2) (q .0)) (q .1)
     where
-      go : length ends / 2 ≤ length c → check (Proper S (at c)) (check (Outdone S (at c)) (Stepped (network n ends) c r d) (Unmoved c r d 9)) (Unmoved c r d 8)
+      go : length ends / 2 ≤ length c → check (Proper S (at c)) (check (Outdone S (at c)) (Stepped (network n ends) c r d) (Untouched c r d 9)) (Untouched c r d 8)
           → Next (length ends / 2) (Proper S) (at c) (at d) × (length ends / 2 ≤ length d)
       go h (inl (_, inl (_, x))) = (x .next, omega (arith, x .rest .long))
       go h (inl (_, inr (_, u))) = absurd (omega (arith, with-number (u .answers)))
@@ -204,7 +205,7 @@ module _ (n : ℕ) (ends : List ℕ) (a : Accepted n ends) where
     no-nine : (r .number ≡ 9 → ⊥) → Called n ends (suc k) d
     no-nine w = go (next-says n ends a c room r d f)
       where
-        go : check (Proper (tree-in (network n ends)) (at c)) (check (Outdone (tree-in (network n ends)) (at c)) (Stepped (network n ends) c r d) (Unmoved c r d 9)) (Unmoved c r d 8)
+        go : check (Proper (tree-in (network n ends)) (at c)) (check (Outdone (tree-in (network n ends)) (at c)) (Stepped (network n ends) c r d) (Untouched c r d 9)) (Untouched c r d 8)
             → Called n ends (suc k) d
         go (inl (_, inl (_, x))) = went-on l f (ap (λ (y : Answer). y .number) (x .answers))
         go (inl (_, inr (_, u))) = absurd (w (with-number (u .answers)))

@@ -5,15 +5,16 @@ use mathlib.Core.Path.{_≡_, refl, subst}
 use Prim.Native.Nat.{ℕ, _/_, _≤_, _<_}
 use native.Mathlib.Omega.{arith}
 use lib.ListN.{length}
+use Rattle.laws.specs.Lists.{at}
+use Rattle.laws.specs.Dictionary.{Last}
 use Rattle.network.specs.Network.{network}
-use Rattle.network.specs.Numbers.{refused}
+use Rattle.network.specs.Numbers.{refused, Accepted}
 use Rattle.network.specs.declared.Answer.{Answer}
 use Rattle.tree.specs.Returns.{backb}
 use Rattle.search.specs.Machine.{tree-in}
-use Rattle.groups.specs.Order.{at, Last}
 use Rattle.choice.specs.Choice.{Proper}
 use Rattle.choice.specs.Calls.{NextChoice}
-use Rattle.listed.specs.Listing.{Accepted, Called, begun, went-on, Lists}
+use Rattle.listed.specs.Listing.{Called, begun, went-on, Lists}
 use Rattle.listed.proofs.Enumerating.{listed-good}
 use Rattle.listed.proofs.Listed.{next-zero, called-listed, calls-list}
 

@@ -4,13 +4,13 @@ use mathlib.Core.Logic.{inl, inr}
 use Prim.Native.Nat.{ℕ, _/_, _≤_}
 use lib.ListN.{length}
 use Rattle.laws.specs.Checks.{check}
+use Rattle.laws.specs.Lists.{at}
 use Rattle.network.specs.Network.{network}
 use Rattle.network.specs.declared.Answer.{Answer}
+use Rattle.network.specs.Numbers.{Untouched, triple, Accepted}
 use Rattle.search.specs.Machine.{tree-in}
-use Rattle.groups.specs.Order.{at}
 use Rattle.choice.specs.Choice.{Drawable, Proper, Outdone}
-use Rattle.choice.specs.Calls.{cramped-first, Untouched, Chosen, Ringed, FirstChoice, cramped-next, Unmoved, Stepped, NextChoice}
-use Rattle.listed.specs.Listing.{Accepted}
+use Rattle.choice.specs.Calls.{cramped-first, Chosen, Ringed, FirstChoice, cramped-next, Stepped, NextChoice}
 use Rattle.listed.proofs.Granted.{grant, granted, room-first, room-next}
 
 module _ (n : ℕ) (ends : List ℕ) (a : Accepted n ends) where
@@ -22,22 +22,22 @@ module _ (n : ℕ) (ends : List ℕ) (a : Accepted n ends) where
     First = check (Drawable (tree-in (network n ends))) (Chosen (network n ends) choice lines kinds r c l k) (Ringed (network n ends) choice lines kinds r c l k)
 
     pub first-says : FirstChoice n ends choice lines kinds r c l k → First
-    first-says = granted n ends a (cramped-first ends choice lines kinds) (room-first n ends choice lines kinds bytes ring ring′) (Untouched choice lines kinds r c l k) First
+    first-says = granted n ends a (cramped-first ends choice lines kinds) (room-first n ends choice lines kinds bytes ring ring′) (Untouched (triple choice lines kinds) r (triple c l k)) First
 
     pub first-by : Drawable (tree-in (network n ends)) → Chosen (network n ends) choice lines kinds r c l k → FirstChoice n ends choice lines kinds r c l k
-    first-by d x = grant n ends a (cramped-first ends choice lines kinds) (room-first n ends choice lines kinds bytes ring ring′) (Untouched choice lines kinds r c l k) First (inl (d, x))
+    first-by d x = grant n ends a (cramped-first ends choice lines kinds) (room-first n ends choice lines kinds bytes ring ring′) (Untouched (triple choice lines kinds) r (triple c l k)) First (inl (d, x))
 
   -- Next choice
 
   module _ (choice : List ℕ) (bytes : length ends / 2 ≤ length choice) (r : Answer) (c : List ℕ) where
     abbrev Later : Type 0
-    Later = check (Outdone (tree-in (network n ends)) (at choice)) (Stepped (network n ends) choice r c) (Unmoved choice r c 9)
+    Later = check (Outdone (tree-in (network n ends)) (at choice)) (Stepped (network n ends) choice r c) (Untouched choice r c 9)
 
     abbrev Next : Type 0
-    Next = check (Proper (tree-in (network n ends)) (at choice)) Later (Unmoved choice r c 8)
+    Next = check (Proper (tree-in (network n ends)) (at choice)) Later (Untouched choice r c 8)
 
     pub next-says : NextChoice n ends choice r c → Next
-    next-says = granted n ends a (cramped-next ends choice) (room-next n ends choice bytes) (Unmoved choice r c) Next
+    next-says = granted n ends a (cramped-next ends choice) (room-next n ends choice bytes) (Untouched choice r c) Next
 
     module _ (p : Proper (tree-in (network n ends)) (at choice)) where
       pub next-outdone : Outdone (tree-in (network n ends)) (at choice) → NextChoice n ends choice r c → Stepped (network n ends) choice r c
@@ -48,13 +48,13 @@ module _ (n : ℕ) (ends : List ℕ) (a : Accepted n ends) where
           go (inl (_, inr (e, x))) = absurd (e d)
           go (inr (e, x)) = absurd (e p)
 
-      pub next-last : (Outdone (tree-in (network n ends)) (at choice) → ⊥) → NextChoice n ends choice r c → Unmoved choice r c 9
+      pub next-last : (Outdone (tree-in (network n ends)) (at choice) → ⊥) → NextChoice n ends choice r c → Untouched choice r c 9
       next-last e f = go (next-says f)
         where
-          go : Next → Unmoved choice r c 9
+          go : Next → Untouched choice r c 9
           go (inl (_, inl (d, x))) = absurd (e d)
           go (inl (_, inr (_, x))) = x
           go (inr (e, x)) = absurd (e p)
 
       pub next-by : Outdone (tree-in (network n ends)) (at choice) → Stepped (network n ends) choice r c → NextChoice n ends choice r c
-      next-by d x = grant n ends a (cramped-next ends choice) (room-next n ends choice bytes) (Unmoved choice r c) Next (inl (p, inl (d, x)))
+      next-by d x = grant n ends a (cramped-next ends choice) (room-next n ends choice bytes) (Untouched choice r c) Next (inl (p, inl (d, x)))

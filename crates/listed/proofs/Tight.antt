@@ -6,18 +6,19 @@ use mathlib.Core.Path.{_≡_, sym, ap, _∙_}
 use Prim.Native.Nat.{ℕ}
 use native.Mathlib.Omega.{arith}
 use lib.Seq.{ext-getD}
+use Rattle.laws.specs.Lists.{at, Agree, Kept}
 use Rattle.laws.proofs.Cases.{cases, lt-or}
 use Rattle.laws.proofs.Checks.{check-once}
+use Rattle.laws.proofs.Dictionary.{first-once, next-once}
 use Rattle.network.specs.Network.{Network, network}
 use Rattle.network.specs.declared.Answer.{Answer}
-use Rattle.network.proofs.Sifting.{checked-once}
+use Rattle.network.specs.Numbers.{Untouched, triple}
+use Rattle.network.proofs.Sifting.{checked-once, untouched-once, three-untouched-once}
 use Rattle.search.specs.Machine.{tree-in}
 use Rattle.fork.specs.Fork.{Constraint}
-use Rattle.groups.specs.Order.{at, Agree}
-use Rattle.groups.specs.Constraints.{Ring}
-use Rattle.groups.proofs.Order.{first-once, next-once}
+use Rattle.rings.specs.Ring.{Ring}
 use Rattle.choice.specs.Choice.{Proper}
-use Rattle.choice.specs.Calls.{Kept, cramped-first, Untouched, Chosen, Ringed, FirstChoice, cramped-next, Unmoved, Stepped, NextChoice}
+use Rattle.choice.specs.Calls.{cramped-first, Chosen, Ringed, FirstChoice, cramped-next, Stepped, NextChoice}
 
 -- two buffers that were changed in their first n places, and are the same there
 pub kept-same : (n : ℕ) (old a b : List ℕ) → Kept n old a → Kept n old b → Agree n (at a) (at b) → a ≡ b
@@ -28,9 +29,6 @@ kept-same n old a b p q e =
 -- Next choice
 
 module _ (n : ℕ) (ends choice : List ℕ) (r r′ : Answer) (c c′ : List ℕ) where
-  unmoved : (k : ℕ) → Unmoved choice r c k → Unmoved choice r′ c′ k → (r ≡ r′) × (c ≡ c′)
-  unmoved k a b = (a .answers ∙ sym (b .answers), a .same-choice ∙ sym (b .same-choice))
-
   stepped : Stepped (network n ends) choice r c → Stepped (network n ends) choice r′ c′ → (r ≡ r′) × (c ≡ c′)
   stepped a b =
       let net = network n ends in (
@@ -40,8 +38,8 @@ module _ (n : ℕ) (ends choice : List ℕ) (r r′ : Answer) (c c′ : List ℕ
 
   pub next-choice-once : NextChoice n ends choice r c → NextChoice n ends choice r′ c′ → (r ≡ r′) × (c ≡ c′)
   next-choice-once =
-      checked-once n ends (cramped-next ends choice) unmoved
-      (check-once (check-once stepped (unmoved 9)) (unmoved 8))
+      checked-once n ends (cramped-next ends choice) untouched-once
+      (check-once (check-once stepped (untouched-once 9)) (untouched-once 8))
 
 -- First choice
 
@@ -61,9 +59,8 @@ abbrev pub Alike : Network → List ℕ → Answer → Answer → List ℕ → L
 Alike net choice r r′ c c′ l l′ k k′ = ((r ≡ r′) × (c ≡ c′) × (l ≡ l′) × (k ≡ k′)) ⊎ BothRinged net choice r r′ c c′ l l′ k k′
 
 module _ (n : ℕ) (ends choice lines kinds : List ℕ) (r r′ : Answer) (c c′ l l′ k k′ : List ℕ) where
-  untouched : (j : ℕ) → Untouched choice lines kinds r c l k j → Untouched choice lines kinds r′ c′ l′ k′ j → Alike (network n ends) choice r r′ c c′ l l′ k k′
-  untouched j a b =
-      inl (a .answers ∙ sym (b .answers), a .same-choice ∙ sym (b .same-choice), a .same-lines ∙ sym (b .same-lines), a .same-kinds ∙ sym (b .same-kinds))
+  untouched : (j : ℕ) → Untouched (triple choice lines kinds) r (triple c l k) j → Untouched (triple choice lines kinds) r′ (triple c′ l′ k′) j → Alike (network n ends) choice r r′ c c′ l l′ k k′
+  untouched j a b = inl (three-untouched-once j a b)
 
   chosen : Chosen (network n ends) choice lines kinds r c l k → Chosen (network n ends) choice lines kinds r′ c′ l′ k′ → Alike (network n ends) choice r r′ c c′ l l′ k k′
   chosen a b =

@@ -1,24 +1,16 @@
 -- The list of choices that the two calls give: first choice, and then next choice again and again. (docs/RULES.md, "Next choice".)
-use mathlib.Core.Bool.{false}
 use mathlib.Core.List.{List}
 use mathlib.Core.Path.{_≡_}
 use Prim.Native.Nat.{ℕ, zero, suc, _/_, _≤_, _<_}
 use lib.ListN.{length}
-use Rattle.network.specs.Network.{network, Connected}
-use Rattle.network.specs.Numbers.{refused, oversize, odd, astray, mispaired}
+use Rattle.laws.specs.Lists.{at, Agree}
+use Rattle.laws.specs.Dictionary.{Before, Last}
+use Rattle.network.specs.Network.{network}
+use Rattle.network.specs.Numbers.{refused}
 use Rattle.network.specs.declared.Answer.{Answer}
 use Rattle.search.specs.Machine.{tree-in}
-use Rattle.groups.specs.Order.{at, Agree, Before, Last}
 use Rattle.choice.specs.Choice.{Proper}
 use Rattle.choice.specs.Calls.{FirstChoice, NextChoice}
-
--- None of the numbers 2 to 6 is the network's own.
-pub record Accepted (n : ℕ) (ends : List ℕ) : Type 0 where
-  pub sized : oversize n (length ends) ≡ false
-  pub paired-ends : odd (length ends) ≡ false
-  pub inside : astray n ends ≡ false
-  pub single : mispaired ends ≡ false
-  pub connected : Connected (network n ends)
 
 -- The buffer c holds what the calls hand back after k steps: first choice, given any buffers, said 0 and left it, or next choice did, given the
 -- buffer that the step before left.

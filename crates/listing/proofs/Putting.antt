@@ -8,14 +8,13 @@ use borrow.Author.Tests.{eq-eqb, ne-eqb}
 use lib.Dec.{eqb}
 use lib.ListN.{set, length, length-append, length-set}
 use lib.Seq.{sets, length-sets}
-use Rattle.laws.specs.Lists.{from, upto}
+use Rattle.laws.specs.Lists.{from, upto, at}
 use Rattle.laws.specs.Sorting.{gather}
 use Rattle.laws.proofs.Cases.{cases, bool}
 use Rattle.laws.proofs.Places.{gather-next}
 use Rattle.digits.specs.Digits.{digits}
 use Rattle.digits.proofs.Back.{length-digits}
 use Rattle.side.specs.Sides.{none}
-use Rattle.groups.specs.Order.{at}
 use Rattle.listing.specs.Page.{answer-line, counts-line, side-digits, choice-line, size-line, step-line, ring-page}
 use Rattle.listing.specs.Inside.{Put, side-piece, has-side, Ringable}
 

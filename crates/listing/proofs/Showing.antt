@@ -9,21 +9,22 @@ use borrow.Author.Tests.{le-ltb}
 use lib.ListN.{length, take, drop, replicate, length-append, length-replicate}
 use lib.Seq.{sets, sets-eq, length-sets, take-at}
 use Rattle.laws.specs.Checks.{check}
+use Rattle.laws.specs.Lists.{at}
 use Rattle.laws.proofs.Cases.{cases}
 use Rattle.laws.proofs.Tests.{either-no}
 use Rattle.network.specs.Network.{Network, network}
 use Rattle.network.specs.declared.Answer.{Answer}
+use Rattle.network.specs.Numbers.{Untouched, triple}
 use Rattle.network.proofs.Checks.{sized}
 use Rattle.search.specs.Machine.{tree-in}
 use Rattle.search.specs.Orient.{back-lines}
-use Rattle.groups.specs.Order.{at}
 use Rattle.choice.specs.Choice.{Drawable, Proper}
 use Rattle.choice.specs.Calls.{Chosen, Ringed, FirstChoice}
 use Rattle.listed.proofs.Granted.{fit, granted}
 use Rattle.listed.proofs.Outcomes.{first-says}
-use Rattle.drawing.specs.Draw.{Draw, cramped-draw, Balanced, Undrawn, Drew, meshes-in}
+use Rattle.drawing.specs.Draw.{Draw, cramped-draw, Balanced, Drew, meshes-in}
 use Rattle.cornetariel.proofs.Packing.{backs-few}
-use Rattle.listing.specs.Page.{answer-line, counts-line, ring-page, Sheet, Listed, Torn, Shows}
+use Rattle.listing.specs.Page.{answer-line, counts-line, ring-page, Sheet, ListPage, RingPage, Shows}
 use Rattle.listing.specs.Inside.{Put, Ringable, Showable, Listable, Sheetable, Paged, PutChoices}
 use Rattle.listing.proofs.Putting.{put-more, answer-long, counts-long, ring-page-long}
 
@@ -57,7 +58,7 @@ module _ (n : ℕ) (ends choice : List ℕ) (back : ℕ) (out : List ℕ) (w : S
   few-lines = omega (arith, sized n (length ends) (w .listable .showable .accepted .sized) .2)
 
   abbrev Outcome : Type 0
-  Outcome = check (Balanced net choice) (Drew net choice order mesh sizes r order′ mesh′ sizes′) (Undrawn order mesh sizes r order′ mesh′ sizes′ 10)
+  Outcome = check (Balanced net choice) (Drew net choice order mesh sizes r order′ mesh′ sizes′) (Untouched (triple order mesh sizes) r (triple order′ mesh′ sizes′) 10)
 
   roomy : cramped-draw (length ends / 2) (length choice) (length order) (length mesh) (length sizes) ≡ false
   unfolding cramped-draw
@@ -72,8 +73,8 @@ module _ (n : ℕ) (ends choice : List ℕ) (back : ℕ) (out : List ℕ) (w : S
   outcome : Outcome
   outcome =
       cases
-      (granted n ends (w .listable .showable .accepted) _ roomy (Undrawn order mesh sizes r order′ mesh′ sizes′)
-      (check (Proper (tree-in net) (at choice)) Outcome (Undrawn order mesh sizes r order′ mesh′ sizes′ 8)) d)
+      (granted n ends (w .listable .showable .accepted) _ roomy (Untouched (triple order mesh sizes) r (triple order′ mesh′ sizes′))
+      (check (Proper (tree-in net) (at choice)) Outcome (Untouched (triple order mesh sizes) r (triple order′ mesh′ sizes′) 8)) d)
       (λ y. y .1) (λ y. absurd (y .0 (w .listable .proper)))
 
   pub small-answer : r .number < 256

@@ -11,25 +11,25 @@ use lib.Dec.{eqb}
 use lib.ListN.{length, length-append}
 use lib.Seq.{sets, length-sets}
 use Rattle.laws.specs.Checks.{check}
-use Rattle.laws.specs.Lists.{upto}
+use Rattle.laws.specs.Lists.{upto, at}
 use Rattle.laws.specs.Sorting.{gather}
+use Rattle.laws.specs.Dictionary.{Next}
 use Rattle.laws.proofs.Cases.{cases, bool}
 use Rattle.laws.proofs.Lists.{All, all-map, from-all}
 use Rattle.laws.proofs.Gathering.{gather-same}
 use Rattle.network.specs.Network.{Network, network}
 use Rattle.network.specs.declared.Answer.{Answer}
+use Rattle.network.specs.Numbers.{Untouched, Accepted}
 use Rattle.network.proofs.Checks.{sized}
 use Rattle.tree.specs.Returns.{backb}
 use Rattle.search.specs.Machine.{tree-in}
 use Rattle.fork.proofs.Rule.{back-of}
 use Rattle.side.specs.Sides.{none}
-use Rattle.groups.specs.Order.{at, Next}
 use Rattle.choice.specs.Choice.{Proper, Outdone}
-use Rattle.choice.specs.Calls.{Unmoved, Stepped, NextChoice}
-use Rattle.listed.specs.Listing.{Accepted}
+use Rattle.choice.specs.Calls.{Stepped, NextChoice}
 use Rattle.listed.proofs.Outcomes.{next-says}
 use Rattle.digits.specs.Digits.{digits}
-use Rattle.listing.specs.Page.{answer-line, side-digits, choice-line, Choices}
+use Rattle.listing.specs.Page.{answer-line, side-digits, choice-line, ChoiceLines}
 use Rattle.listing.specs.Inside.{Put, has-side, Listable, PutChoices}
 use Rattle.listing.proofs.Putting.{put-more, answer-long, line-short}
 
@@ -54,7 +54,7 @@ pub record Stepping (net : Network) (first old : List ℕ) (place : ℕ) (c out 
   pub room : length text + left * 4097 ≤ 262208
   pub long : length c ≡ net .lines
   pub proper : Proper (tree-in net) (at c)
-  pub rest : (t : List ℕ) → Choices net left c t → Choices net 64 first (text ++ t)
+  pub rest : (t : List ℕ) → ChoiceLines net left c t → ChoiceLines net 64 first (text ++ t)
 
 module _ (n : ℕ) (ends first old : List ℕ) (w : Listable n ends first old) (place : ℕ) (low : place ≤ 11) where
   abbrev net : Network
@@ -97,7 +97,7 @@ module _ (n : ℕ) (ends first old : List ℕ) (w : Listable n ends first old) (
         let all = put-more old place (s .text) to out (s .so-far) (answer-line 0) r new (q .after) (q .put) in
         record {
           text = s .text ++ answer-line 0;
-          choices = s .rest (answer-line 0) (rw z (Choices.no-more-room));
+          choices = s .rest (answer-line 0) (rw z (ChoiceLines.no-more-room));
           fits = omega (arith, all .after, q .after, answer-fits, w .showable .roomy, out-long, answer-long 0);
           put = all;
         }
@@ -126,9 +126,9 @@ module _ (n : ℕ) (ends first old : List ℕ) (w : Listable n ends first old) (
       outcome : Outcome
       outcome = go (next-says n ends (w .showable .accepted) c (omega (arith, s .long)) answer d x)
         where
-          go : check (Proper (tree-in net) (at c)) (check (Outdone (tree-in net) (at c)) (Stepped net c answer d) (Unmoved c answer d 9)) (Unmoved c answer d 8) → Outcome
+          go : check (Proper (tree-in net) (at c)) (check (Outdone (tree-in net) (at c)) (Stepped net c answer d) (Untouched c answer d 9)) (Untouched c answer d 8) → Outcome
           go (inl (_, inl (_, y))) = inl (ap (λ (z : Answer). z .number) (y .answers), y .rest .long ∙ s .long, y .next)
-          go (inl (_, inr (e, y))) = inr (ap (λ (z : Answer). z .number) (y .answers), ap length (y .same-choice) ∙ s .long, e)
+          go (inl (_, inr (e, y))) = inr (ap (λ (z : Answer). z .number) (y .answers), ap length (y .same) ∙ s .long, e)
           go (inr (e, y)) = absurd (e (s .proper))
 
       pub stepping-more : answer .number ≡ 0 → Stepping net first old place d mid r (left - 1)
@@ -144,8 +144,8 @@ module _ (n : ℕ) (ends first old : List ℕ) (w : Listable n ends first old) (
                 long = l;
                 proper = y .good;
                 rest = λ t u.
-                    subst (λ (v : List ℕ). Choices net 64 first v) (sym (append-assoc (s .text) line t))
-                    (s .rest (line ++ t) (subst (λ k. Choices net k c (line ++ t)) one (Choices.more l y u)));
+                    subst (λ (v : List ℕ). ChoiceLines net 64 first v) (sym (append-assoc (s .text) line t))
+                    (s .rest (line ++ t) (subst (λ k. ChoiceLines net k c (line ++ t)) one (ChoiceLines.more l y u)));
               }
           go (inr (e, _, _)) = absurd (omega (arith, e, z))
 
@@ -173,8 +173,8 @@ module _ (n : ℕ) (ends first old : List ℕ) (w : Listable n ends first old) (
               let all = put-more old place (s .text ++ line) r mid put-line (answer-line 9) to′ new (y′ .after) (y′ .put) in
               record {
                 text = text;
-                choices = subst (λ (v : List ℕ). Choices net 64 first v) (sym (append-assoc (s .text) line (answer-line 9)))
-                    (s .rest (line ++ answer-line 9) (subst (λ k. Choices net k c (line ++ answer-line 9)) one (Choices.last none-later)));
+                choices = subst (λ (v : List ℕ). ChoiceLines net 64 first v) (sym (append-assoc (s .text) line (answer-line 9)))
+                    (s .rest (line ++ answer-line 9) (subst (λ k. ChoiceLines net k c (line ++ answer-line 9)) one (ChoiceLines.last none-later)));
                 fits = omega (arith, all .after, y′ .after, answer-long 9, last-fits, mid-long, w .showable .roomy);
                 put = all;
               }

@@ -6,15 +6,15 @@ use Prim.Native.Nat.{ℕ, _+_, _*_, _/_, _≤_, _<_}
 use lib.Dec.{eqb}
 use lib.ListN.{length, take}
 use lib.Seq.{sets}
+use Rattle.laws.specs.Lists.{at}
+use Rattle.network.specs.Numbers.{Accepted}
 use Rattle.digits.specs.Digits.{digits}
 use Rattle.side.specs.Sides.{none}
 use Rattle.network.specs.Network.{network}
 use Rattle.search.specs.Machine.{tree-in}
 use Rattle.search.specs.Orient.{back-lines}
-use Rattle.groups.specs.Order.{at}
 use Rattle.choice.specs.Choice.{Proper}
-use Rattle.listed.specs.Listing.{Accepted}
-use Rattle.listing.specs.Page.{Prints, Shows, Choices}
+use Rattle.listing.specs.Page.{Prints, Shows, ChoiceLines}
 
 -- A piece was put at a place of a buffer, and r is the place after it.
 pub record Put (old : List ℕ) (place : ℕ) (piece : List ℕ) (r : ℕ) (new : List ℕ) : Type 0 where
@@ -59,6 +59,6 @@ pub record Paged (P : List ℕ → Type 0) (r : ℕ) (out : List ℕ) : Type 0 w
 -- The choices from one on were put at a place.
 pub record PutChoices (n : ℕ) (ends choice old : List ℕ) (place r : ℕ) (new : List ℕ) : Type 0 where
   pub text : List ℕ
-  pub choices : Choices (network n ends) 64 choice text
+  pub choices : ChoiceLines (network n ends) 64 choice text
   pub fits : place + length text ≤ length old
   pub put : Put old place text r new

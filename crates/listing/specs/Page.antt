@@ -6,8 +6,9 @@ use Prim.Native.Nat.{ℕ, zero, suc, _*_, _≤_}
 use lib.Dec.{ltb}
 use lib.ListN.{length}
 use Rattle.laws.specs.Checks.{check}
-use Rattle.laws.specs.Lists.{upto}
+use Rattle.laws.specs.Lists.{upto, at}
 use Rattle.laws.specs.Sorting.{gather}
+use Rattle.laws.specs.Dictionary.{First, Next}
 use Rattle.digits.specs.Digits.{digits}
 use Rattle.network.specs.Network.{Network, network}
 use Rattle.network.specs.Numbers.{oversize, Formed}
@@ -16,8 +17,7 @@ use Rattle.search.specs.Machine.{tree-in}
 use Rattle.search.specs.Orient.{back-lines}
 use Rattle.text.specs.Text.{feed, vertices-in, lines-in, ends-in, has-form}
 use Rattle.fork.specs.Fork.{Constraint}
-use Rattle.groups.specs.Order.{at, First, Next}
-use Rattle.groups.specs.Constraints.{Ring}
+use Rattle.rings.specs.Ring.{Ring}
 use Rattle.choice.specs.Choice.{Drawable, Proper, Outdone}
 use Rattle.drawing.specs.Draw.{meshes-in, Balanced}
 
@@ -48,26 +48,26 @@ ring-page size line kind = size-line size ++ gather (λ i. step-line (line i) (k
 
 -- The choices of a network from c on, so many at the most, and the answer of the next call after the last that is printed: 9 where no choice comes
 -- later, 0 where one does.
-pub data Choices (net : Network) : ℕ → List ℕ → List ℕ → Type 0 where
-  no-more-room : {c : List ℕ} → Choices net zero c (answer-line 0)
-  last : {k : ℕ} {c : List ℕ} → (Outdone (tree-in net) (at c) → ⊥) → Choices net (suc k) c (choice-line (backb (tree-in net)) (net .lines) (at c) ++ answer-line 9)
-  more : {k : ℕ} {c d t : List ℕ} → length d ≡ net .lines → Next (net .lines) (Proper (tree-in net)) (at c) (at d) → Choices net k d t
-      → Choices net (suc k) c (choice-line (backb (tree-in net)) (net .lines) (at c) ++ t)
+pub data ChoiceLines (net : Network) : ℕ → List ℕ → List ℕ → Type 0 where
+  no-more-room : {c : List ℕ} → ChoiceLines net zero c (answer-line 0)
+  last : {k : ℕ} {c : List ℕ} → (Outdone (tree-in net) (at c) → ⊥) → ChoiceLines net (suc k) c (choice-line (backb (tree-in net)) (net .lines) (at c) ++ answer-line 9)
+  more : {k : ℕ} {c d t : List ℕ} → length d ≡ net .lines → Next (net .lines) (Proper (tree-in net)) (at c) (at d) → ChoiceLines net k d t
+      → ChoiceLines net (suc k) c (choice-line (backb (tree-in net)) (net .lines) (at c) ++ t)
 
 -- The page of a first choice: the counts, and the choices from it on, 64 at the most; 10 where vertices - lines + meshes is not 2.
 abbrev pub Sheet : Network → List ℕ → List ℕ → Type 0
 Sheet net choice page =
-    check (Balanced net choice) ((t : List ℕ) × Choices net 64 choice t × (page ≡ counts-line (meshes-in net choice) (back-lines net) ++ t)) (page ≡ answer-line 10)
+    check (Balanced net choice) ((t : List ℕ) × ChoiceLines net 64 choice t × (page ≡ counts-line (meshes-in net choice) (back-lines net) ++ t)) (page ≡ answer-line 10)
 
 -- The page of a network with a legal choice.
-pub record Listed (net : Network) (page : List ℕ) : Type 0 where
+pub record ListPage (net : Network) (page : List ℕ) : Type 0 where
   pub choice : List ℕ
   pub long : length choice ≡ net .lines
   pub first : First (net .lines) (Proper (tree-in net)) (at choice)
   pub sheet : Sheet net choice page
 
 -- The page of a network without one: a ring of fork constraints.
-pub record Torn (net : Network) (page : List ℕ) : Type 0 where
+pub record RingPage (net : Network) (page : List ℕ) : Type 0 where
   pub size : ℕ
   pub line : List ℕ
   pub kind : List ℕ
@@ -76,7 +76,7 @@ pub record Torn (net : Network) (page : List ℕ) : Type 0 where
   pub says : page ≡ ring-page size (at line) (at kind)
 
 abbrev pub Shows : Network → List ℕ → Type 0
-Shows net page = check (Drawable (tree-in net)) (Listed net page) (Torn net page)
+Shows net page = check (Drawable (tree-in net)) (ListPage net page) (RingPage net page)
 
 -- The page of an input: too long or without the form of a text, 1; then the numbers that its network can meet.
 abbrev pub Prints : List ℕ → List ℕ → Type 0

@@ -2,7 +2,7 @@
 ghost use mathlib.Core.Path.{_≡_};
 ghost use Prim.Native.Nat.{ℕ, _+_, _*_, _≤_, _<_};
 ghost use lib.ListN.{length};
-ghost use Rattle.groups.specs.Order.{at};
+ghost use Rattle.laws.specs.Lists.{at};
 ghost use Rattle.listing.specs.Page.{«answer-line», «counts-line», «choice-line», «size-line», «step-line», «ring-page»};
 ghost use Rattle.listing.specs.Inside.{Put, «side-piece», «has-side», Ringable};
 use side::Side;

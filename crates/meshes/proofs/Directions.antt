@@ -14,68 +14,68 @@ use Rattle.laws.proofs.Places.{many-at}
 use Rattle.network.specs.Network.{Network, first, touches}
 use Rattle.network.specs.Inside.{Fit}
 use Rattle.network.proofs.Lines.{touches-first, touches-second, touches-of}
-use Rattle.meshes.specs.Meshes.{opposite, leave, follow-in, follow}
-use Rattle.meshes.specs.Inside.{after}
+use Rattle.meshes.specs.Meshes.{other-way, leave-by, follow-in, follow}
+use Rattle.meshes.specs.Inside.{place-after}
 
 -- The other way
 
-pub opposite-even : (d : ℕ) → d % 2 ≡ 0 → opposite d ≡ suc d
-unfolding opposite
-opposite-even d e = rw (eq-eqb (d % 2) 0 e)
+pub other-way-even : (d : ℕ) → d % 2 ≡ 0 → other-way d ≡ suc d
+unfolding other-way
+other-way-even d e = rw (eq-eqb (d % 2) 0 e)
 
-pub opposite-odd : (d : ℕ) → d % 2 ≡ 1 → opposite d ≡ d - 1
-unfolding opposite
-opposite-odd d e = rw (ne-eqb (d % 2) 0 (λ z. omega arith))
+pub other-way-odd : (d : ℕ) → d % 2 ≡ 1 → other-way d ≡ d - 1
+unfolding other-way
+other-way-odd d e = rw (ne-eqb (d % 2) 0 (λ z. omega arith))
 
 pub parity : (d : ℕ) → (d % 2 ≡ 0) ⊎ (d % 2 ≡ 1)
 parity d = cases (eq-or (d % 2) 0) (λ e. inl e) (λ n. let n′ : d % 2 ≢ 0 = n in inr (omega arith))
 
-pub opposite-twice : (d : ℕ) → opposite (opposite d) ≡ d
-opposite-twice d =
+pub other-way-twice : (d : ℕ) → other-way (other-way d) ≡ d
+other-way-twice d =
     cases (parity d)
-    (λ e. rw (opposite-even d e) (opposite-odd (suc d) (omega arith) ∙ omega arith))
-    (λ e. rw (opposite-odd d e) (opposite-even (d - 1) (omega arith) ∙ omega arith))
+    (λ e. rw (other-way-even d e) (other-way-odd (suc d) (omega arith) ∙ omega arith))
+    (λ e. rw (other-way-odd d e) (other-way-even (d - 1) (omega arith) ∙ omega arith))
 
-pub opposite-half : (d : ℕ) → opposite d / 2 ≡ d / 2
-opposite-half d = cases (parity d) (λ e. rw (opposite-even d e) (omega arith)) (λ e. rw (opposite-odd d e) (omega arith))
+pub other-way-half : (d : ℕ) → other-way d / 2 ≡ d / 2
+other-way-half d = cases (parity d) (λ e. rw (other-way-even d e) (omega arith)) (λ e. rw (other-way-odd d e) (omega arith))
 
-pub opposite-other : (d : ℕ) → opposite d ≡ d → ⊥
-opposite-other d q = cases (parity d) (λ e. omega (arith, opposite-even d e)) (λ e. omega (arith, opposite-odd d e))
+pub other-way-other : (d : ℕ) → other-way d ≡ d → ⊥
+other-way-other d q = cases (parity d) (λ e. omega (arith, other-way-even d e)) (λ e. omega (arith, other-way-odd d e))
 
-pub opposite-below : (d m : ℕ) → d < 2 * m → opposite d < 2 * m
-opposite-below d m h = cases (parity d) (λ e. rw (opposite-even d e) (omega arith)) (λ e. rw (opposite-odd d e) (omega arith))
+pub other-way-below : (d m : ℕ) → d < 2 * m → other-way d < 2 * m
+other-way-below d m h = cases (parity d) (λ e. rw (other-way-even d e) (omega arith)) (λ e. rw (other-way-odd d e) (omega arith))
 
 -- the line's two directions
-pub two : (d e : ℕ) → d / 2 ≡ e / 2 → (d ≡ e) ⊎ (d ≡ opposite e)
+pub two : (d e : ℕ) → d / 2 ≡ e / 2 → (d ≡ e) ⊎ (d ≡ other-way e)
 two d e q =
     cases (parity e)
-    (λ x. cases (parity d) (λ y. inl (omega arith)) (λ y. inr (omega (arith, opposite-even e x))))
-    (λ x. cases (parity d) (λ y. inr (omega (arith, opposite-odd e x))) (λ y. inl (omega arith)))
+    (λ x. cases (parity d) (λ y. inl (omega arith)) (λ y. inr (omega (arith, other-way-even e x))))
+    (λ x. cases (parity d) (λ y. inr (omega (arith, other-way-odd e x))) (λ y. inl (omega arith)))
 
 -- The direction that leaves an end
 
-pub leave-first : (ends : List ℕ) (v k : ℕ) → first ends k ≡ v → leave ends v k ≡ 2 * k
-unfolding leave
+pub leave-first : (ends : List ℕ) (v k : ℕ) → first ends k ≡ v → leave-by ends v k ≡ 2 * k
+unfolding leave-by
 leave-first ends v k e = rw (eq-eqb (first ends k) v e)
 
-pub leave-second : (ends : List ℕ) (v k : ℕ) → (first ends k ≡ v → ⊥) → leave ends v k ≡ 2 * k + 1
-unfolding leave
+pub leave-second : (ends : List ℕ) (v k : ℕ) → (first ends k ≡ v → ⊥) → leave-by ends v k ≡ 2 * k + 1
+unfolding leave-by
 leave-second ends v k e = rw (ne-eqb (first ends k) v e)
 
-pub leave-half : (ends : List ℕ) (v k : ℕ) → leave ends v k / 2 ≡ k
+pub leave-half : (ends : List ℕ) (v k : ℕ) → leave-by ends v k / 2 ≡ k
 leave-half ends v k =
     cases (eq-or (first ends k) v)
     (λ e. rw (leave-first ends v k e) (omega arith))
     (λ e. rw (leave-second ends v k e) (omega arith))
 
-pub leave-below : (ends : List ℕ) (v k m : ℕ) → k < m → leave ends v k < 2 * m
+pub leave-below : (ends : List ℕ) (v k m : ℕ) → k < m → leave-by ends v k < 2 * m
 leave-below ends v k m h = omega (arith, leave-half ends v k)
 
-pub leave-one : (ends : List ℕ) (v x y : ℕ) → leave ends v x ≡ leave ends v y → x ≡ y
+pub leave-one : (ends : List ℕ) (v x y : ℕ) → leave-by ends v x ≡ leave-by ends v y → x ≡ y
 leave-one ends v x y e = sym (leave-half ends v x) ∙ ap (λ (d : ℕ). d / 2) e ∙ leave-half ends v y
 
 -- it does leave v
-pub leave-from : (ends : List ℕ) (v k : ℕ) → touches ends v k ≡ true → getD ends (leave ends v k) 0 ≡ v
+pub leave-from : (ends : List ℕ) (v k : ℕ) → touches ends v k ≡ true → getD ends (leave-by ends v k) 0 ≡ v
 leave-from ends v k t =
     cases (eq-or (first ends k) v)
     (λ e. rw (leave-first ends v k e) e)
@@ -92,7 +92,7 @@ module _ (net : Network) (fit : Fit net) where
       (λ e. let q : 2 * (d / 2) ≡ d = omega arith in touches-first ends (getD ends d 0) (d / 2) (ap (λ (x : ℕ). getD ends x 0) q))
       (λ e. let q : 2 * (d / 2) + 1 ≡ d = omega arith in touches-second ends (getD ends d 0) (d / 2) (ap (λ (x : ℕ). getD ends x 0) q))
 
-  pub from-leaves : (d : ℕ) → d < 2 * net .lines → leave ends (getD ends d 0) (d / 2) ≡ d
+  pub from-leaves : (d : ℕ) → d < 2 * net .lines → leave-by ends (getD ends d 0) (d / 2) ≡ d
   from-leaves d h =
       cases (parity d)
       (λ e. let q : 2 * (d / 2) ≡ d = omega arith in leave-first ends (getD ends d 0) (d / 2) (ap (λ (x : ℕ). getD ends x 0) q) ∙ q)
@@ -102,18 +102,18 @@ module _ (net : Network) (fit : Fit net) where
 
 -- What follows in a cyclic list
 
-pub after-more : (n i : ℕ) → suc i < n → after n i ≡ suc i
-unfolding after
+pub after-more : (n i : ℕ) → suc i < n → place-after n i ≡ suc i
+unfolding place-after
 after-more n i h = rw (lt-ltb (suc i) n h)
 
-pub after-last : (n i : ℕ) → n ≤ suc i → after n i ≡ 0
-unfolding after
+pub after-last : (n i : ℕ) → n ≤ suc i → place-after n i ≡ 0
+unfolding place-after
 after-last n i h = rw (le-ltb (suc i) n h)
 
-pub after-in : (n i : ℕ) → i < n → after n i < n
+pub after-in : (n i : ℕ) → i < n → place-after n i < n
 after-in n i h = cases (lt-or (suc i) n) (λ g. rw (after-more n i g) g) (λ g. rw (after-last n i g) (omega arith))
 
-pub after-one : (n i j : ℕ) → i < n → j < n → after n i ≡ after n j → i ≡ j
+pub after-one : (n i j : ℕ) → i < n → j < n → place-after n i ≡ place-after n j → i ≡ j
 after-one n i j h g e =
     cases (lt-or (suc i) n)
     (λ a.
@@ -139,7 +139,7 @@ default [] i a b h = absurd (omega arith)
 default (x ∷ r) zero a b h = refl
 default (x ∷ r) (suc i) a b h = default r i a b (omega arith)
 
-pub follow-at : (r : List ℕ) → ((z : ℕ) → many z r ≤ 1) → (i : ℕ) → i < length r → follow r (getD r i 0) ≡ getD r (after (length r) i) 0
+pub follow-at : (r : List ℕ) → ((z : ℕ) → many z r ≤ 1) → (i : ℕ) → i < length r → follow r (getD r i 0) ≡ getD r (place-after (length r) i) 0
 follow-at r o i h =
     follow-in-at (getD r 0 0) r o i h
     ∙ cases (lt-or (suc i) (length r))

@@ -6,8 +6,8 @@ use native.Mathlib.Omega.{arith}
 use lib.ListN.{length, getD, set, replicate}
 use Rattle.network.specs.Network.{network-of}
 use Rattle.network.specs.Inside.{Fit}
-use Rattle.meshes.specs.Meshes.{opposite, leave}
-use Rattle.meshes.specs.Inside.{after, Laid, Linked}
+use Rattle.meshes.specs.Meshes.{other-way, leave-by}
+use Rattle.meshes.specs.Inside.{place-after, Laid, Linked}
 use Rattle.meshes.proofs.Links.{Linking, laid-line, linking-start, linking-more, linking-done, linked-start}
 
 pub record Linkable (n m : ℕ) (ends order starts : List ℕ) (v from count i : ℕ) (nexts : List ℕ) : Type 0 where
@@ -50,7 +50,7 @@ module _ {n m : ℕ} {ends order starts : List ℕ} {v : ℕ} where
         (is-k .0 ∙ ap (λ (x : ℕ). getD order (x + j) 0) (L .from-is))
 
     module _ (h : i < count) {k : ℕ} (is-k : (k ≡ getD order (from + i) 0) × (k < 65536))
-        {p : ℕ} (is-p : (p ≡ after count i) × (p < count)) {l : ℕ} (is-l : (l ≡ getD order (from + p) 0) × (l < 65536)) where
+        {p : ℕ} (is-p : (p ≡ place-after count i) × (p < count)) {l : ℕ} (is-l : (l ≡ getD order (from + p) 0) × (l < 65536)) where
       pub link-few : k < 2048
       link-few = omega (arith, link-line is-k h, L .fit .few-lines)
 
@@ -63,13 +63,13 @@ module _ {n m : ℕ} {ends order starts : List ℕ} {v : ℕ} where
       pub link-end-next : 2 * l < length ends
       link-end-next = omega (arith, link-line is-l (is-p .1), L .fit .ends-long)
 
-      pub link-more : {x : ℕ} → (x ≡ leave ends v k) × (x < 2 * (k + 1)) → {d : ℕ} → (d ≡ opposite x) × (d < 4096)
-          → {e : ℕ} → (e ≡ leave ends v l) × (e < 2 * (l + 1)) → Linkable n m ends order starts v from count (i + 1) (set nexts d e)
+      pub link-more : {x : ℕ} → (x ≡ leave-by ends v k) × (x < 2 * (k + 1)) → {d : ℕ} → (d ≡ other-way x) × (d < 4096)
+          → {e : ℕ} → (e ≡ leave-by ends v l) × (e < 2 * (l + 1)) → Linkable n m ends order starts v from count (i + 1) (set nexts d e)
       link-more is-x {d} is-d {e} is-e =
           let next = linking-more (network-of n m ends) (L .fit) order starts (L .laid) v i nexts (L .vertex-in) (L .linking) (omega (arith, L .count-is)) d e
-          (is-d .0 ∙ ap opposite (is-x .0 ∙ ap (leave ends v) (is-k .0 ∙ ap (λ (y : ℕ). getD order (y + i) 0) (L .from-is))))
-          (is-e .0 ∙ ap (leave ends v) (is-l .0 ∙ ap (λ (y : ℕ). getD order (from + y) 0) (is-p .0)
-          ∙ ap (λ (y : ℕ). getD order (from + after y i) 0) (L .count-is) ∙ ap (λ (y : ℕ). getD order (y + after (getD starts (v + 1) 0 - getD starts v 0) i) 0) (L .from-is))) in
+          (is-d .0 ∙ ap other-way (is-x .0 ∙ ap (leave-by ends v) (is-k .0 ∙ ap (λ (y : ℕ). getD order (y + i) 0) (L .from-is))))
+          (is-e .0 ∙ ap (leave-by ends v) (is-l .0 ∙ ap (λ (y : ℕ). getD order (from + y) 0) (is-p .0)
+          ∙ ap (λ (y : ℕ). getD order (from + place-after y i) 0) (L .count-is) ∙ ap (λ (y : ℕ). getD order (y + place-after (getD starts (v + 1) 0 - getD starts v 0) i) 0) (L .from-is))) in
           record {
             fit = L .fit;
             laid = L .laid;

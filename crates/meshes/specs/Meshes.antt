@@ -7,18 +7,18 @@ use lib.ListN.{getD}
 use Rattle.laws.specs.Tests.{both, either}
 use Rattle.laws.specs.Counting.{count}
 use Rattle.laws.specs.Lists.{upto}
-use Rattle.laws.specs.Orbits.{number, walks}
+use Rattle.laws.specs.Orbits.{walk-number, walks}
 use Rattle.network.specs.Network.{first}
 
 -- Line k gives direction 2k from its first end to its second, and 2k + 1 back. A direction d leaves the vertex at place d of the list of ends.
 
 -- The direction the other way.
-unfoldable pub opposite : ℕ → ℕ
-opposite d = cond (eqb (d % 2) 0) (suc d) (d - 1)
+unfoldable pub other-way : ℕ → ℕ
+other-way d = cond (eqb (d % 2) 0) (suc d) (d - 1)
 
 -- The direction of line k that leaves v.
-unfoldable pub leave : List ℕ → ℕ → ℕ → ℕ
-leave ends v k = cond (eqb (first ends k) v) (2 * k) (2 * k + 1)
+unfoldable pub leave-by : List ℕ → ℕ → ℕ → ℕ
+leave-by ends v k = cond (eqb (first ends k) v) (2 * k) (2 * k + 1)
 
 -- What stands after x in a list, and after its last member the first.
 unfoldable pub follow-in : ℕ → List ℕ → ℕ → ℕ
@@ -30,11 +30,11 @@ follow l x = follow-in (getD l 0 0) l x
 
 -- The direction that leaves the vertex of d next after d, clockwise.
 unfoldable pub turned : List ℕ → (ℕ → List ℕ) → ℕ → ℕ
-turned ends order d = leave ends (getD ends d 0) (follow (order (getD ends d 0)) (d / 2))
+turned ends order d = leave-by ends (getD ends d 0) (follow (order (getD ends d 0)) (d / 2))
 
 -- The walk goes on from d with what follows, at the vertex where d ends, the line that it came by.
-unfoldable pub step : List ℕ → (ℕ → List ℕ) → ℕ → ℕ
-step ends order d = turned ends order (opposite d)
+unfoldable pub next-direction : List ℕ → (ℕ → List ℕ) → ℕ → ℕ
+next-direction ends order d = turned ends order (other-way d)
 
 -- The directions of the lines in service.
 abbrev pub either-way : (ℕ → Bool) → ℕ → Bool
@@ -43,11 +43,11 @@ either-way live d = live (d / 2)
 module _ (live : ℕ → Bool) (m : ℕ) (ends : List ℕ) (order : ℕ → List ℕ) where
   -- A mesh is a walk of this map. Its number is how many meshes have a lower lowest direction.
   unfoldable pub mesh-of : ℕ → ℕ
-  mesh-of d = number (either-way live) (step ends order) (2 * m) d
+  mesh-of d = walk-number (either-way live) (next-direction ends order) (2 * m) d
 
   -- How many meshes there are; a lone vertex, with no line, has one.
   unfoldable pub mesh-count : ℕ
-  mesh-count = cond (eqb (count live m) 0) 1 (walks (either-way live) (step ends order) (2 * m))
+  mesh-count = cond (eqb (count live m) 0) 1 (walks (either-way live) (next-direction ends order) (2 * m))
 
   -- Line k has a direction on the mesh.
   unfoldable pub borders : ℕ → ℕ → Bool

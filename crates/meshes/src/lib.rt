@@ -6,6 +6,7 @@ pub mod turns;
 
 ghost use Prim.Native.Nat.{ℕ, _+_, _*_, _<_};
 ghost use Rattle.meshes.specs.Inside.{Numberable, Numbered, Followable, Followed, Meshed, Sized};
+use network::Absent;
 use network::wide;
 
 // How many meshes there are, and the mesh of each direction.
@@ -19,12 +20,12 @@ pub fn numbered(directions: usize, nexts: &[u16]) -> Meshes
     requires { ⌜ Numberable directions (now nexts) ⌝ }
     ensures { λ r. ⌜ Numbered directions (now (nexts .entry)) (r .count) (r .mesh) ⌝ }
 {
-    let mut mesh = [65535u16; 4096];
+    let mut mesh = [Absent::ENTRY; 4096];
     let mut count = 0;
     let mut d = 0;
     while d < directions {
         let after = d + 1;
-        if mesh[d] == 65535 {
+        if mesh[d] == Absent::ENTRY {
             follow(directions, d, count, nexts, &mut mesh);
             count += 1;
         }
@@ -40,7 +41,7 @@ fn follow(directions: usize, d: usize, number: usize, nexts: &[u16], mesh: &mut 
     ensures { λ _. ⌜ Followed directions d number (now (nexts .entry)) (now (mesh .exit)) ⌝ }
 {
     let mut x = d;
-    while mesh[x] == 65535 {
+    while mesh[x] == Absent::ENTRY {
         mesh[x] = number as u16;
         x = wide(nexts[x]);
     }

@@ -4,8 +4,8 @@ ghost use Prim.Native.Nat.{ℕ, _+_, _*_, _≤_, _<_};
 ghost use lib.ListN.{length};
 ghost use Rattle.network.specs.Network.{«network-of»};
 ghost use Rattle.network.specs.Inside.{Fit};
-ghost use Rattle.meshes.specs.Meshes.{opposite, leave};
-ghost use Rattle.meshes.specs.Inside.{after, Laid, Linked};
+ghost use Rattle.meshes.specs.Meshes.{«other-way», «leave-by»};
+ghost use Rattle.meshes.specs.Inside.{«place-after», Laid, Linked};
 use network::wide;
 
 // The direction that follows each, for any order of the lines at the vertices: a flat order, and where each vertex's part of it begins.
@@ -58,7 +58,7 @@ fn link(
 // The place after i, round so many places.
 fn place_after(places: usize, i: usize) -> usize
     requires { ⌜ (i < places) × (places ≤ 4096) ⌝ }
-    ensures { λ r. ⌜ (r ≡ after places i) × (r < places) ⌝ }
+    ensures { λ r. ⌜ (r ≡ place-after places i) × (r < places) ⌝ }
 {
     if i + 1 < places { i + 1 } else { 0 }
 }
@@ -66,7 +66,7 @@ fn place_after(places: usize, i: usize) -> usize
 // The direction of line k that leaves v.
 fn way_out(v: usize, k: usize, ends: &[u16]) -> usize
     requires { ⌜ (k < 2048) × (2 * k < length (now ends)) ⌝ }
-    ensures { λ r. ⌜ (r ≡ leave (now (ends .entry)) v k) × (r < 2 * (k + 1)) ⌝ }
+    ensures { λ r. ⌜ (r ≡ leave-by (now (ends .entry)) v k) × (r < 2 * (k + 1)) ⌝ }
 {
     if wide(ends[2 * k]) == v {
         2 * k
@@ -78,7 +78,7 @@ fn way_out(v: usize, k: usize, ends: &[u16]) -> usize
 // The direction the other way.
 fn reversed(d: usize) -> usize
     requires { ⌜ d < 4096 ⌝ }
-    ensures { λ r. ⌜ (r ≡ opposite d) × (r < 4096) ⌝ }
+    ensures { λ r. ⌜ (r ≡ other-way d) × (r < 4096) ⌝ }
 {
     if d % 2 == 0 { d + 1 } else { d - 1 }
 }

@@ -12,8 +12,9 @@ use Rattle.laws.proofs.Cases.{cases, true-false}
 use Rattle.laws.proofs.Checks.{check-once}
 use Rattle.laws.proofs.Tests.{either-first, either-second, either-of, either-neither, either-no}
 use Rattle.network.specs.Network.{Network, network, first, second, Connected}
-use Rattle.network.specs.Numbers.{oversize, odd, astray, looped, mispaired, Formed, Checked, Sifted}
+use Rattle.network.specs.Numbers.{refused, Untouched, triple, pair, oversize, odd, astray, looped, mispaired, Formed, Checked, Sifted}
 use Rattle.network.specs.Inside.{Fit}
+use Rattle.network.specs.declared.Answer.{Answer}
 use Rattle.network.proofs.Checks.{sized, even, none-astray}
 use Rattle.network.proofs.Pairs.{none-looped, loop-yes}
 
@@ -98,3 +99,23 @@ checked-elim n ends short R G (inr (two, inr (three, inr (four, inr (five, inr (
 pub checked-once : (n : ℕ) (ends : List ℕ) (short : Bool) {R R′ : ℕ → Type 0} {G G′ C : Type 0} → ((k : ℕ) → R k → R′ k → C) → (G → G′ → C)
     → Checked n ends short R G → Checked n ends short R′ G′ → C
 checked-once n ends short f g = check-once (f 2) (check-once (f 3) (check-once (f 4) (check-once (f 5) (check-once g (f 6)))))
+
+-- A refusal leaves what was lent as it is; and two refusals by one number, with what they leave, are equal.
+pub untouched : {A : Type 0} {lent : A} {r : Answer} {k : ℕ} → r ≡ refused k → Untouched lent r lent k
+untouched e = record { answers = e; same = refl }
+
+pub untouched-once : {A : Type 0} {lent a b : A} {r s : Answer} (k : ℕ) → Untouched lent r a k → Untouched lent s b k → (r ≡ s) × (a ≡ b)
+untouched-once k p q = (p .answers ∙ sym (q .answers), p .same ∙ sym (q .same))
+
+-- .. two buffers, or three, one by one
+pub two-untouched-once : {a b c d e f : List ℕ} {r s : Answer} (k : ℕ) → Untouched (pair a b) r (pair c d) k → Untouched (pair a b) s (pair e f) k
+    → (r ≡ s) × (c ≡ e) × (d ≡ f)
+two-untouched-once k p q =
+    let (answer, left) = untouched-once k p q in
+    (answer, ap (λ (x : List ℕ × List ℕ). x .0) left, ap (λ (x : List ℕ × List ℕ). x .1) left)
+
+pub three-untouched-once : {a b c d e f x y z : List ℕ} {r s : Answer} (k : ℕ) → Untouched (triple a b c) r (triple d e f) k → Untouched (triple a b c) s (triple x y z) k
+    → (r ≡ s) × (d ≡ x) × (e ≡ y) × (f ≡ z)
+three-untouched-once k p q =
+    let (answer, left) = untouched-once k p q in
+    (answer, ap (λ (x : List ℕ × List ℕ × List ℕ). x .0) left, ap (λ (x : List ℕ × List ℕ × List ℕ). x .1) left, ap (λ (x : List ℕ × List ℕ × List ℕ). x .2) left)

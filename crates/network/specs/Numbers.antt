@@ -18,6 +18,17 @@ refused k = record { number = k; count = 0; second = 0 }
 abbrev pub done : ℕ → ℕ → Answer
 done a b = record { number = 0; count = a; second = b }
 
+-- A refusal answers its number, and changes nothing: what was lent, be it one buffer, two or three, is left as it was.
+abbrev pub pair : List ℕ → List ℕ → List ℕ × List ℕ
+pair a b = (a, b)
+
+abbrev pub triple : List ℕ → List ℕ → List ℕ → List ℕ × List ℕ × List ℕ
+triple a b c = (a, b, c)
+
+pub record Untouched {A : Type 0} (lent : A) (r : Answer) (left : A) (k : ℕ) : Type 0 where
+  pub answers : r ≡ refused k
+  pub same : left ≡ lent
+
 -- 2: no vertex or more than 512, or more than 2,048 lines.
 unfoldable pub oversize : ℕ → ℕ → Bool
 oversize n ends = either (either (eqb n 0) (ltb 512 n)) (ltb 4096 ends)
@@ -39,6 +50,14 @@ doubled ends k = any (λ j. joins ends j (first ends k) (second ends k)) k
 
 unfoldable pub mispaired : List ℕ → Bool
 mispaired ends = any (λ k. either (looped ends k) (doubled ends k)) (length ends / 2)
+
+-- A network that meets none of 2 to 6.
+pub record Accepted (n : ℕ) (ends : List ℕ) : Type 0 where
+  pub sized : oversize n (length ends) ≡ false
+  pub paired-ends : odd (length ends) ≡ false
+  pub inside : astray n ends ≡ false
+  pub single : mispaired ends ≡ false
+  pub connected : Connected (network n ends)
 
 -- What the ends themselves can be refused for: 4, 5, and 6 where the network is not connected. `refusal k` and `granted` are what the caller makes of it.
 abbrev pub Formed : ℕ → List ℕ → (ℕ → Type 0) → Type 0 → Type 0

@@ -14,6 +14,26 @@ pub const VERTICES: usize = 512;
 
 pub const ENDS: usize = 4096;
 
+// What a line is, in the tables of the search.
+pub struct Kind {}
+
+impl Kind {
+    pub const TREE: u8 = 0;
+
+    pub const BACK: u8 = 1;
+    // Not used yet. (2 is kept for lines that are out of service.)
+    pub const UNUSED: u8 = 3;
+}
+
+// What a table has where there is nothing: as its entry, and read as an index.
+pub struct Absent {}
+
+impl Absent {
+    pub const ENTRY: u16 = 65535;
+
+    pub const INDEX: usize = 65535;
+}
+
 // What a call answers: 0 or the number of a refusal, and its counts, which are 0 with a refusal.
 pub struct Answer {
     pub number: usize,

@@ -6,8 +6,9 @@ use Prim.Native.Nat.{ℕ, zero, suc, _+_, _-_, _%_, _≤_, _<_}
 use native.Mathlib.Omega.{arith}
 use borrow.Author.Tests.{lt-ltb, le-ltb}
 use Rattle.laws.proofs.Cases.{cases, eq-or, lt-or}
-use Rattle.groups.specs.Constraints.{Constraints, Even, Ring}
+use Rattle.groups.specs.Constraints.{Constraints, Even}
 use Rattle.rings.specs.Rings.{wrap}
+use Rattle.rings.specs.Ring.{Ring}
 use Rattle.rings.proofs.Rings.{differents, differents-none, differents-more, ringb-of}
 
 -- Places round a circle

@@ -4,8 +4,8 @@ use mathlib.Core.Path.{_≡_, sym, _∙_, ap, subst}
 use Prim.Native.Nat.{ℕ, zero, suc, _+_, _-_, _≤_, _<_}
 use native.Mathlib.Omega.{arith}
 use Rattle.laws.proofs.Cases.{cases, lt-or}
-use Rattle.groups.specs.Groups.{Put}
-use Rattle.rings.specs.Rings.{Reach, Step, Queued, Reached, Climbed, Chain}
+use Rattle.groups.specs.Groups.{PutAt}
+use Rattle.rings.specs.Rings.{Reach, Step, Queued, Reached, Climbed, SimpleWay}
 use Rattle.rings.proofs.Flooding.{pigeon}
 
 module _ (lines d n : ℕ) (r : Reach) (g : Queued lines n r) where
@@ -30,7 +30,7 @@ module _ (lines d n : ℕ) (r : Reach) (g : Queued lines n r) where
     pub via-less : r .via p < p
     via-less = g .earlier p above (omega (arith, c .room))
 
-    pub climb-more : (line′ : ℕ → ℕ) → Put line (suc i) (r .queue (r .via p)) line′ → Climbed lines d n r (r .via p) (suc i) line′
+    pub climb-more : (line′ : ℕ → ℕ) → PutAt line (suc i) (r .queue (r .via p)) line′ → Climbed lines d n r (r .via p) (suc i) line′
     climb-more line′ m =
         let u = via-less in
         let h : p < n = omega (arith, c .room) in
@@ -95,7 +95,7 @@ module _ (lines b d : ℕ) (from to : ℕ → ℕ) (n : ℕ) (r : Reach) (g : Re
       cases (lt-or s j) (λ o. absurd (omega (arith, lower s j o (omega arith), ap (r .place) e)))
       (λ o. cases (lt-or j s) (λ o′. absurd (omega (arith, lower j s o′ (omega arith), ap (r .place) e))) (λ o′. omega arith))
 
-  pub chain : Chain lines b d from to (suc i) line
+  pub chain : SimpleWay lines b d from to (suc i) line
   chain =
       record {
         some = omega arith;

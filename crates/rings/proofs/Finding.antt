@@ -7,10 +7,10 @@ use native.Mathlib.Numerals.{add-one}
 use native.Mathlib.Omega.{arith}
 use lib.ListN.{length, set, length-set, replicate, length-replicate, getD-replicate}
 use lib.Seq.{getD-set-same}
-use Rattle.groups.specs.Order.{at}
+use Rattle.laws.specs.Lists.{at}
 use Rattle.groups.specs.Calls.{Wide}
 use Rattle.groups.proofs.Filling.{put-at}
-use Rattle.rings.specs.Rings.{reach, Found, Flooding, Climbing, Climbed, Trail, Finding, Chain, Showing, Writing, Written, Shown}
+use Rattle.rings.specs.Rings.{reach, Found, Flooding, Climbing, Climbed, Trail, Finding, SimpleWay, Showing, Writing, Written, Shown}
 use Rattle.rings.proofs.Flooding.{reached-few}
 use Rattle.rings.proofs.Climbing.{climb-none, via-less, climb-more, chain}
 use Rattle.rings.proofs.Showing.{shown}
@@ -103,7 +103,7 @@ module _ (lines b d : ℕ) (from to line : List ℕ) (f : Finding lines b d from
           queued = s .reached .queued;
         }
 
-    pub chained : (k : ℕ) (line′ : List ℕ) → Trail lines d n (reach queue via place) k line′ → Chain lines b d (at from) (at to) k (at line′)
+    pub chained : (k : ℕ) (line′ : List ℕ) → Trail lines d n (reach queue via place) k line′ → SimpleWay lines b d (at from) (at to) k (at line′)
     chained k line′ t =
         rw (← t .is-last)
         (chain lines b d (at from) (at to) n (reach queue via place) (s .reached) (t .last-place) (at line′) (t .climbed))
@@ -128,7 +128,7 @@ module _ (lines b d k : ℕ) (parity from to ring kinds : List ℕ) (s : Showing
   pub finding-zeros : Finding lines b d from to (replicate {A = ℕ} 2048 0)
   finding-zeros = finding (replicate {A = ℕ} 2048 0) (length-replicate {A = ℕ} 2048 0)
 
-  module _ (n : ℕ) (line : List ℕ) (c : Chain lines b d (at from) (at to) n (at line)) where
+  module _ (n : ℕ) (line : List ℕ) (c : SimpleWay lines b d (at from) (at to) n (at line)) where
     pub writing : length line ≡ 2048 → Writing n k parity line ring kinds
     writing e =
         let t = s .conflict in

@@ -9,7 +9,7 @@ use lib.Dec.{eqb}
 use borrow.Author.Tests.{eq-eqb, ne-eqb}
 use Rattle.laws.proofs.Cases.{cases, eq-or, lt-or}
 use Rattle.laws.proofs.Counting.{count-le, count-all}
-use Rattle.groups.specs.Groups.{Joins, Way, Put}
+use Rattle.groups.specs.Groups.{Joins, Way, PutAt}
 use Rattle.groups.proofs.Ways.{way-in}
 use Rattle.rings.specs.Rings.{Reach, Step, Queued, Reached, across, Spread, Scanned}
 
@@ -136,7 +136,7 @@ module _ (lines b : ℕ) (from to : ℕ → ℕ) where
               (λ o′. absurd (old-line j o′ (sym (with-old j o′) ∙ sym q ∙ ap with-v z ∙ with-new)))
               (λ o′. omega arith)))
 
-          module _ (r′ : Reach) (pq : Put (r .queue) n v (r′ .queue)) (pv : Put (r .via) n head (r′ .via)) (pp : Put (r .place) v (suc n) (r′ .place)) where
+          module _ (r′ : Reach) (pq : PutAt (r .queue) n v (r′ .queue)) (pv : PutAt (r .via) n head (r′ .via)) (pp : PutAt (r .place) v (suc n) (r′ .place)) where
             old-queue : (i : ℕ) → i < n → r′ .queue i ≡ r .queue i
             old-queue i h = pq .there i (λ q. omega arith)
 

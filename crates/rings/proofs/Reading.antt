@@ -8,11 +8,11 @@ use native.Mathlib.Omega.{arith}
 use lib.Dec.{eqb, leb}
 use lib.ListN.{length, set}
 use borrow.Author.Tests.{eq-eqb, ne-eqb, eqb-true, eqb-false, leb-true, leb-false}
+use Rattle.laws.specs.Lists.{at}
 use Rattle.laws.proofs.Cases.{cases, bool, eq-or}
-use Rattle.groups.specs.Order.{at}
 use Rattle.groups.specs.Calls.{Wide}
 use Rattle.groups.proofs.Filling.{Filled, filled-more}
-use Rattle.rings.specs.Rings.{Lowest, wrap, kindOf, spotOf, linkOf, Spot, Link, Upward, Tracing, TracedLines, TracedKinds}
+use Rattle.rings.specs.Rings.{LowestPlace, wrap, kindOf, spotOf, linkOf, Spot, StepPlace, Upward, Tracing, TracedLines, TracedKinds}
 use Rattle.rings.proofs.Circles.{wrap-low, wrap-high, wrap-within}
 
 -- Places round the circle
@@ -33,11 +33,11 @@ module _ (n m : ℕ) (up : Bool) (j r : ℕ) (hm : m < n) (hj : j < n) where
   unfolding spotOf
   spot-down e q = record { is = rw (e, q); within = rw q (wrap-within n (m + n - j) (omega arith)) }
 
-  pub link-up : up ≡ true → r ≡ wrap n (m + j) → Link n m up j r
+  pub link-up : up ≡ true → r ≡ wrap n (m + j) → StepPlace n m up j r
   unfolding linkOf
   link-up e q = record { is = rw (e, q); within = rw q (wrap-within n (m + j) (omega arith)) }
 
-  pub link-down : up ≡ false → r ≡ wrap n (m + n - (j + 1)) → Link n m up j r
+  pub link-down : up ≡ false → r ≡ wrap n (m + n - (j + 1)) → StepPlace n m up j r
   unfolding linkOf
   link-down e q =
       let z : m + n - (j + 1) ≡ m + n - suc j = omega arith in
@@ -48,7 +48,7 @@ module _ (n m : ℕ) (up : Bool) (j r : ℕ) (hm : m < n) (hj : j < n) where
 pub record Seen (n i : ℕ) (chain : List ℕ) (m : ℕ) : Type 0 where
   pub some : 0 < i
   pub upto : i ≤ n
-  pub least : Lowest i (at chain) m
+  pub least : LowestPlace i (at chain) m
 
 module _ (n : ℕ) (chain : List ℕ) where
   pub seen-one : 0 < n → Seen n 1 chain 0
@@ -86,7 +86,7 @@ module _ (n : ℕ) (chain : List ℕ) where
               };
         }
 
-  pub seen-all : (i m : ℕ) → Seen n i chain m → n ≤ i → Lowest n (at chain) m
+  pub seen-all : (i m : ℕ) → Seen n i chain m → n ≤ i → LowestPlace n (at chain) m
   seen-all i m s h = let e : i ≡ n = omega (arith, s .upto) in rw e at (s .least)
 
 -- Kinds
@@ -159,7 +159,7 @@ module _ (n m : ℕ) (up : Bool) (chain old : List ℕ) (j : ℕ) (l : List ℕ)
   lines-traced h = record { written = λ i o. f .done i (omega arith); rest = λ i o. f .rest i (omega (arith, f .upto)) }
 
 module _ (n m : ℕ) (up : Bool) (k : ℕ) (parity chain old : List ℕ) (j : ℕ) (l : List ℕ) (f : Filled (RingKinds parity chain n m up k) n j old l) where
-  pub kinds-more : (r v : ℕ) → Link n m up j r → j < n → v ≡ kindOf (at parity) (at chain) n k r
+  pub kinds-more : (r v : ℕ) → StepPlace n m up j r → j < n → v ≡ kindOf (at parity) (at chain) n k r
       → Filled (RingKinds parity chain n m up k) n (j + 1) old (set l j v)
   unfolding RingKinds
   kinds-more r v s h e = filled-more f h (e ∙ ap (kindOf (at parity) (at chain) n k) (s .is))

@@ -10,7 +10,8 @@ use Rattle.laws.specs.Counting.{count}
 use Rattle.laws.proofs.Cases.{cases, eq-or}
 use Rattle.laws.proofs.Tests.{both-yes, both-of, either-first, either-second, either-of, all-yes, all-of}
 use Rattle.laws.proofs.Counting.{count-zero, count-yes, count-no, count-same}
-use Rattle.groups.specs.Constraints.{Constraints, Even, Keeps, apartb, oddb, orderedb, ringb, Ring}
+use Rattle.groups.specs.Constraints.{Constraints, Even, Keeps}
+use Rattle.rings.specs.Ring.{apartb, oddb, orderedb, ringb, Ring}
 
 -- The shape
 

@@ -8,14 +8,15 @@ use Prim.Native.Nat.{ℕ, suc, _+_, _-_, _%_, _≤_, _<_}
 use native.Mathlib.Omega.{arith}
 use lib.ListN.{length}
 use borrow.Author.Tests.{eq-eqb, ne-eqb}
+use Rattle.laws.specs.Lists.{at}
 use Rattle.laws.proofs.Cases.{cases, eq-or, lt-or}
-use Rattle.groups.specs.Order.{at}
-use Rattle.groups.specs.Constraints.{Constraints, Between, More, BackLine, Ring}
+use Rattle.groups.specs.Constraints.{Constraints, Between, More, Sided}
 use Rattle.groups.specs.Groups.{Tables, tables, Grouped}
 use Rattle.groups.specs.Calls.{Room, joined}
 use Rattle.groups.specs.declared.Joining.the-variants.{Conflicts}
 use Rattle.groups.proofs.Ways.{way-append, way-turn}
-use Rattle.rings.specs.Rings.{Showing, Drawn, Torn, Chain, Lowest, wrap, kindOf, spotOf, linkOf, Upward, TracedLines, TracedKinds, Shown}
+use Rattle.rings.specs.Rings.{Showing, Noted, Torn, SimpleWay, LowestPlace, wrap, kindOf, spotOf, linkOf, Upward, TracedLines, TracedKinds, Shown}
+use Rattle.rings.specs.Ring.{Ring}
 use Rattle.rings.proofs.Rings.{ring-map, ring-agree}
 use Rattle.rings.proofs.Circles.{wrap-low, wrap-high, Hop, Circle, up-ring, down-ring}
 
@@ -29,12 +30,12 @@ kind-step parity line n k i e = rw (ne-eqb (suc i) n e)
 
 module _ (lines b d k : ℕ) (parity from to : ℕ → ℕ) where
   abbrev Links : Constraints
-  Links = Between (Drawn lines parity from to b d k)
+  Links = Between (Noted lines parity from to b d k)
 
   turned : (u v z : ℕ) → Links u v z → Links v u z
   turned u v z l = cases l inr inl
 
-  module _ (torn : Torn lines parity from to b d k) (n : ℕ) (line : ℕ → ℕ) (c : Chain lines b d from to n line) where
+  module _ (torn : Torn lines parity from to b d k) (n : ℕ) (line : ℕ → ℕ) (c : SimpleWay lines b d from to n line) where
     kind : ℕ → ℕ
     kind = kindOf parity line n k
 
@@ -81,7 +82,7 @@ module _ (lines b d k : ℕ) (parity from to : ℕ → ℕ) where
               rw z (hop-home i (omega arith)));
         }
 
-    module _ (m : ℕ) (l : Lowest n line m) where
+    module _ (m : ℕ) (l : LowestPlace n line m) where
       same-neighbour : n ≡ 2 → line (wrap n (m + 1)) ≡ line (wrap n (m + n - 1))
       same-neighbour e = ap (λ (x : ℕ). line (wrap n x)) (omega arith)
 
@@ -113,7 +114,7 @@ module _ (lines b d k : ℕ) (parity from to : ℕ → ℕ) where
 -- What a conflict leaves, and what the ring shows
 
 module _ (lines : ℕ) (back : ℕ → Bool) (P : Constraints) (t t′ : Tables) (g : Grouped lines back P t) (b d k : ℕ)
-    (hb : BackLine lines back b) (hd : BackLine lines back d) where
+    (hb : Sided lines back b) (hd : Sided lines back d) where
   pub torn : lines ≤ 2048 → k ≤ 1 → (b ≡ d → ⊥) → joined lines b d k t t′ Conflicts → Torn lines (t .parity) (t .from) (t .to) b d k
   torn few small apart j =
       record {
@@ -130,10 +131,10 @@ module _ (lines : ℕ) (back : ℕ → Bool) (P : Constraints) (t t′ : Tables)
   pub ring-shown : (n : ℕ) (ring kinds ring′ kinds′ : List ℕ) → Shown lines (t .parity) (t .from) (t .to) b d k n ring kinds ring′ kinds′
       → Ring (Between (More P b d k)) n (at ring′) (at kinds′)
   ring-shown n ring kinds ring′ kinds′ s =
-      ring-map (Between (Drawn lines (t .parity) (t .from) (t .to) b d k)) (Between (More P b d k)) n (at ring′) (at kinds′)
+      ring-map (Between (Noted lines (t .parity) (t .from) (t .to) b d k)) (Between (More P b d k)) n (at ring′) (at kinds′)
       (λ u v z o l. cases l (λ x. inl (link u v z o x)) (λ x. inr (link v u z (λ e. o (sym e)) x))) (s .is-ring)
     where
-      link : (u v z : ℕ) → (u ≡ v → ⊥) → Drawn lines (t .parity) (t .from) (t .to) b d k u v z → More P b d k u v z
+      link : (u v z : ℕ) → (u ≡ v → ⊥) → Noted lines (t .parity) (t .from) (t .to) b d k u v z → More P b d k u v z
       link u v z o (inl (j, e)) =
           cases (g .taken (j .place) (j .within))
           (λ q. absurd (o (sym (j .is-from) ∙ q ∙ j .is-to)))
@@ -142,7 +143,7 @@ module _ (lines : ℕ) (back : ℕ → Bool) (P : Constraints) (t t′ : Tables)
 
 -- The ring, after a conflict
 
-module _ (lines : ℕ) (back : ℕ → Bool) (P : Constraints) (b d kind : ℕ) (hb : BackLine lines back b) (hd : BackLine lines back d)
+module _ (lines : ℕ) (back : ℕ → Bool) (P : Constraints) (b d kind : ℕ) (hb : Sided lines back b) (hd : Sided lines back d)
     (leader parity from to leader′ parity′ from′ to′ : List ℕ) (g : Grouped lines back P (tables leader parity from to))
     (j : joined lines b d kind (tables leader parity from to) (tables leader′ parity′ from′ to′) Conflicts) where
   pub showing : (ring kinds : List ℕ) → kind ≤ 1 → (b ≡ d → ⊥) → Room lines leader′ parity′ from′ to′ → lines ≤ length ring → lines ≤ length kinds

@@ -7,11 +7,11 @@ use native.Mathlib.Numerals.{add-one}
 use native.Mathlib.Omega.{arith}
 use lib.ListN.{length, set, length-set}
 use borrow.Author.Tests.{eq-eqb, ne-eqb}
+use Rattle.laws.specs.Lists.{at}
 use Rattle.laws.proofs.Cases.{cases, lt-or}
-use Rattle.groups.specs.Order.{at}
 use Rattle.groups.specs.Calls.{Wide}
 use Rattle.groups.proofs.Filling.{put-at}
-use Rattle.rings.specs.Rings.{reach, across, Spread, Scanned, Found, Room, Looking, Scanning, Flooding}
+use Rattle.rings.specs.Rings.{reach, across, Spread, Scanned, Found, FloodRoom, Looking, Scanning, Flooding}
 use Rattle.rings.proofs.Flooding.{across-inside, reached-start, w-inside, scan-reached, room, scan-push, scan-none, scan-done, all-reached, reached-few}
 
 -- The end beyond a step
@@ -85,8 +85,8 @@ pub record Kept (queue via place queue′ via′ place′ : List ℕ) : Type 0 w
   pub vias : length via′ ≡ length via
   pub places : length place′ ≡ length place
 
-room-kept : (lines : ℕ) (from to queue via place queue′ via′ place′ : List ℕ) → Room lines from to queue via place → Kept queue via place queue′ via′ place′
-    → Room lines from to queue′ via′ place′
+room-kept : (lines : ℕ) (from to queue via place queue′ via′ place′ : List ℕ) → FloodRoom lines from to queue via place → Kept queue via place queue′ via′ place′
+    → FloodRoom lines from to queue′ via′ place′
 room-kept lines from to queue via place queue′ via′ place′ r k =
     record {
       few = r .few;
@@ -143,7 +143,7 @@ module _ (lines b head : ℕ) (from to queue₀ via₀ place₀ : List ℕ) wher
 pub record Floods (lines b head n : ℕ) (from to queue₀ via₀ place₀ queue via place : List ℕ) : Type 0 where
   pub most : n ≤ lines
   pub ahead : head ≤ n
-  pub room : Room lines from to queue via place
+  pub room : FloodRoom lines from to queue via place
   pub kept : Kept queue₀ via₀ place₀ queue via place
   pub state : Spread lines b (at from) (at to) n head (reach queue via place)
 

@@ -1,2 +1,3 @@
--- How a ring is read off the tables of groups.
+-- What a ring is, and how one is read off the tables of groups.
+pub mod Ring
 pub mod Rings

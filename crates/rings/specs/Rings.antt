@@ -1,5 +1,5 @@
 -- How a ring is read off the tables after a conflict, in steps that the functions tell each other. A reader of the calls' statements need not
--- believe any of it: what a ring is stands in groups/specs/Constraints.antt.
+-- believe any of it: what a ring is stands in Ring.antt.
 use mathlib.Core.Bool.{Bool, true, false, cond}
 use mathlib.Core.List.{List}
 use mathlib.Core.Logic.{_⊎_}
@@ -7,14 +7,15 @@ use mathlib.Core.Path.{_≡_}
 use Prim.Native.Nat.{ℕ, suc, _+_, _-_, _%_, _≤_, _<_}
 use lib.Dec.{eqb, ltb}
 use lib.ListN.{length}
-use Rattle.groups.specs.Order.{at}
-use Rattle.groups.specs.Constraints.{Constraints, Between, Ring}
+use Rattle.laws.specs.Lists.{at, Past}
+use Rattle.side.specs.Sides.{same}
+use Rattle.groups.specs.Constraints.{Constraints, Between}
 use Rattle.groups.specs.Groups.{Joins, Way}
-use Rattle.groups.specs.Calls.{Past}
+use Rattle.rings.specs.Ring.{Ring}
 
 -- The constraints that joined groups, with the kinds that the parities say, and the one between b and d that does not agree.
-abbrev pub Drawn : ℕ → (ℕ → ℕ) → (ℕ → ℕ) → (ℕ → ℕ) → ℕ → ℕ → ℕ → Constraints
-Drawn lines parity from to b d k u v z = (Joins lines from to u v × (z ≡ (parity u + parity v) % 2)) ⊎ ((u ≡ b) × (v ≡ d) × (z ≡ k))
+abbrev pub Noted : ℕ → (ℕ → ℕ) → (ℕ → ℕ) → (ℕ → ℕ) → ℕ → ℕ → ℕ → Constraints
+Noted lines parity from to b d k u v z = (Joins lines from to u v × (z ≡ (parity u + parity v) % 2)) ⊎ ((u ≡ b) × (v ≡ d) × (z ≡ k))
 
 -- A conflict: b and d are in one group, and the constraint between them does not agree with the parities.
 pub record Torn (lines : ℕ) (parity from to : ℕ → ℕ) (b d k : ℕ) : Type 0 where
@@ -77,7 +78,7 @@ pub record Scanned (lines b : ℕ) (from to : ℕ → ℕ) (n head e : ℕ) (r :
   pub scanned : (x : ℕ) → x < e → 0 < r .place (across (from x) (to x) (r .queue head))
 
 -- What the flood asks: room, and steps between lines.
-pub record Room (lines : ℕ) (from to queue via place : List ℕ) : Type 0 where
+pub record FloodRoom (lines : ℕ) (from to queue via place : List ℕ) : Type 0 where
   pub few : lines ≤ 2048
   pub froms : lines ≤ length from
   pub tos : lines ≤ length to
@@ -89,19 +90,19 @@ pub record Room (lines : ℕ) (from to queue via place : List ℕ) : Type 0 wher
 -- What a look at step e from the place `head` asks, what all looks from there ask, and what the flood from b to d asks:
 -- nothing is reached yet, and a way leads there.
 pub record Looking (lines b e head n : ℕ) (from to queue via place : List ℕ) : Type 0 where
-  pub room : Room lines from to queue via place
+  pub room : FloodRoom lines from to queue via place
   pub below : e < lines
   pub ahead : head < n
   pub most : n ≤ lines
   pub state : Scanned lines b (at from) (at to) n head e (reach queue via place)
 
 pub record Scanning (lines b head n : ℕ) (from to queue via place : List ℕ) : Type 0 where
-  pub room : Room lines from to queue via place
+  pub room : FloodRoom lines from to queue via place
   pub pending : head < n
   pub state : Spread lines b (at from) (at to) n head (reach queue via place)
 
 pub record Flooding (lines b d : ℕ) (from to queue via place : List ℕ) : Type 0 where
-  pub room : Room lines from to queue via place
+  pub room : FloodRoom lines from to queue via place
   pub root : b < lines
   pub goal : d < lines
   pub fresh : (x : ℕ) → x < lines → at place x ≡ 0
@@ -135,7 +136,7 @@ pub record Trail (lines d n : ℕ) (r : Reach) (k : ℕ) (line : List ℕ) : Typ
   pub climbed : Climbed lines d n r 0 last-place (at line)
 
 -- A way of n different lines from d to b.
-pub record Chain (lines b d : ℕ) (from to : ℕ → ℕ) (n : ℕ) (line : ℕ → ℕ) : Type 0 where
+pub record SimpleWay (lines b d : ℕ) (from to : ℕ → ℕ) (n : ℕ) (line : ℕ → ℕ) : Type 0 where
   pub some : 0 < n
   pub few : n ≤ lines
   pub first : line 0 ≡ d
@@ -156,7 +157,7 @@ pub record Finding (lines b d : ℕ) (from to line : List ℕ) : Type 0 where
   pub way : Way (Joins lines (at from) (at to)) b d
 
 -- m is the place of the lowest of n lines.
-pub record Lowest (n : ℕ) (line : ℕ → ℕ) (m : ℕ) : Type 0 where
+pub record LowestPlace (n : ℕ) (line : ℕ → ℕ) (m : ℕ) : Type 0 where
   pub within : m < n
   pub low : (i : ℕ) → i < n → line m ≤ line i
 
@@ -179,14 +180,14 @@ pub record Spot (n m : ℕ) (up : Bool) (j r : ℕ) : Type 0 where
   pub is : r ≡ spotOf n m up j
   pub within : r < n
 
-pub record Link (n m : ℕ) (up : Bool) (j r : ℕ) : Type 0 where
+pub record StepPlace (n m : ℕ) (up : Bool) (j r : ℕ) : Type 0 where
   pub is : r ≡ linkOf n m up j
   pub within : r < n
 
 -- The way to go on from the lowest line, where k is the kind of the step up and the neighbours are x, upwards, and y.
 abbrev pub Upward : ℕ → ℕ → ℕ → ℕ → Bool → Type 0
-Upward n k x y true = (n ≡ 2 → k ≡ 0) × ((n ≡ 2 → ⊥) → x ≤ y)
-Upward n k x y false = (n ≡ 2 → k ≡ 0 → ⊥) × ((n ≡ 2 → ⊥) → y ≤ x)
+Upward n k x y true = (n ≡ 2 → k ≡ same) × ((n ≡ 2 → ⊥) → x ≤ y)
+Upward n k x y false = (n ≡ 2 → k ≡ same → ⊥) × ((n ≡ 2 → ⊥) → y ≤ x)
 
 -- What reading the chain asks: its lines have parities.
 pub record Tracing (n k : ℕ) (parity line : List ℕ) : Type 0 where
@@ -222,7 +223,7 @@ pub record Writing (n k : ℕ) (parity line ring kinds : List ℕ) : Type 0 wher
 pub record Written (parity line : ℕ → ℕ) (n k : ℕ) (ring kinds ring′ kinds′ : List ℕ) : Type 0 where
   pub from-place : ℕ
   pub up : Bool
-  pub lowest : Lowest n line from-place
+  pub lowest : LowestPlace n line from-place
   pub upward : Upward n (kindOf parity line n k from-place) (line (wrap n (from-place + 1))) (line (wrap n (from-place + n - 1))) up
   pub its-lines : TracedLines line n from-place up ring ring′
   pub its-kinds : TracedKinds parity line n from-place up k kinds kinds′
@@ -230,6 +231,6 @@ pub record Written (parity line : ℕ → ℕ) (n k : ℕ) (ring kinds ring′ k
 -- What is answered: a ring, in the first n places of the buffers.
 pub record Shown (lines : ℕ) (parity from to : ℕ → ℕ) (b d k n : ℕ) (ring kinds ring′ kinds′ : List ℕ) : Type 0 where
   pub few : n ≤ lines
-  pub is-ring : Ring (Between (Drawn lines parity from to b d k)) n (at ring′) (at kinds′)
+  pub is-ring : Ring (Between (Noted lines parity from to b d k)) n (at ring′) (at kinds′)
   pub ring-rest : Past n ring ring′
   pub kinds-rest : Past n kinds kinds′

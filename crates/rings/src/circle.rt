@@ -4,8 +4,8 @@
 ghost use mathlib.Core.Path.{_≡_};
 ghost use Prim.Native.Nat.{_+_, _-_, _≤_, _<_};
 ghost use lib.ListN.{length};
-ghost use Rattle.groups.specs.Order.{at};
-ghost use Rattle.rings.specs.Rings.{Lowest, wrap, kindOf, Spot, Link, Upward, Tracing, TracedLines, TracedKinds, Writing, Written};
+ghost use Rattle.laws.specs.Lists.{at};
+ghost use Rattle.rings.specs.Rings.{LowestPlace, wrap, kindOf, Spot, StepPlace, Upward, Tracing, TracedLines, TracedKinds, Writing, Written};
 use groups::odd;
 use groups::wide;
 
@@ -31,7 +31,7 @@ pub(crate) fn write(
 // The place of the lowest of the n lines.
 fn lowest(n: usize, chain: &[u16]) -> usize
     requires { ⌜ (0 < n) × (n ≤ 2048) × (n ≤ length (now chain)) ⌝ }
-    ensures { λ r. ⌜ Lowest n (at (now (chain .entry))) r ⌝ }
+    ensures { λ r. ⌜ LowestPlace n (at (now (chain .entry))) r ⌝ }
 {
     let mut m = 0;
     let mut i = 1;
@@ -92,7 +92,7 @@ fn spot(n: usize, m: usize, up: bool, j: usize) -> usize
 // The place in the chain of the step from the ring's place j.
 fn link(n: usize, m: usize, up: bool, j: usize) -> usize
     requires { ⌜ (m < n) × (j < n) × (n ≤ 2048) ⌝ }
-    ensures { λ r. ⌜ Link n m up j r ⌝ }
+    ensures { λ r. ⌜ StepPlace n m up j r ⌝ }
 {
     if up {
         return around(n, m + j);

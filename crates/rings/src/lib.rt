@@ -8,8 +8,8 @@ mod circle; // a chain of lines read as a ring
 ghost use mathlib.Core.Path.{_≡_};
 ghost use Prim.Native.Nat.{_+_, _<_};
 ghost use lib.ListN.{length};
-ghost use Rattle.groups.specs.Order.{at};
-ghost use Rattle.rings.specs.Rings.{reach, across, Spread, Scanned, Found, Looking, Scanning, Flooding, Climbing, Trail, Finding, Chain, Showing, Shown};
+ghost use Rattle.laws.specs.Lists.{at};
+ghost use Rattle.rings.specs.Rings.{reach, across, Spread, Scanned, Found, Looking, Scanning, Flooding, Climbing, Trail, Finding, SimpleWay, Showing, Shown};
 use groups::wide;
 
 // Writes the ring that the constraint between b and d closes, its lines and their kinds, and answers how many lines it has.
@@ -44,7 +44,7 @@ fn find_chain(
     chain: &mut [u16],
 ) -> usize
     requires { ⌜ Finding lines b d (now from) (now to) (now chain) ⌝ }
-    ensures { λ r. ⌜ Chain lines b d (at (now (from .entry))) (at (now (to .entry))) r (at (now (chain .exit))) ⌝ }
+    ensures { λ r. ⌜ SimpleWay lines b d (at (now (from .entry))) (at (now (to .entry))) r (at (now (chain .exit))) ⌝ }
 {
     let mut queue = [0u16; 2048];
     let mut via = [0u16; 2048];

@@ -2,7 +2,7 @@
 use mathlib.Core.Bool.{Bool, true, false}
 use mathlib.Core.List.{List}
 use mathlib.Core.Logic.{_⊎_, inl, inr, _≢_}
-use mathlib.Core.Path.{_≡_, refl, sym, ap, _∙_, subst}
+use mathlib.Core.Path.{_≡_, sym, ap, _∙_, subst}
 use Prim.Native.Nat.{ℕ, _+_, _*_, _-_, _/_, _≤_, _<_}
 use native.Mathlib.Omega.{arith}
 use lib.Dec.{ltb}
@@ -13,12 +13,12 @@ use Rattle.laws.specs.Tests.{either}
 use Rattle.laws.proofs.Cases.{cases, true-false}
 use Rattle.laws.proofs.Tests.{either-first, either-second, either-no}
 use Rattle.network.specs.Network.{Network, network, Connected}
-use Rattle.network.specs.Numbers.{refused, done, oversize, odd, Checked, Sifted}
+use Rattle.network.specs.Numbers.{refused, done, oversize, odd, Checked, Sifted, Untouched, pair}
 use Rattle.network.specs.Inside.{Fit}
 use Rattle.network.specs.declared.Answer.{Answer}
-use Rattle.network.proofs.Sifting.{sift-fit, sift-refused, sift-connected, refuse-2, refuse-3, refuse-rest, checked-elim, checked-once}
-use Rattle.search.specs.Orient.{Orient, Untouched, Oriented, cramped, Explored, unsearched, searched, back-lines}
-use Rattle.search.specs.Inside.{Settled}
+use Rattle.network.proofs.Sifting.{sift-fit, sift-refused, sift-connected, refuse-2, refuse-3, refuse-rest, checked-elim, checked-once, untouched, two-untouched-once}
+use Rattle.search.specs.Orient.{Orient, Oriented, cramped, Explored, unsearched, searched, back-lines}
+use Rattle.search.specs.Inside.{Ended}
 use Rattle.search.specs.declared.Search.{Search}
 use Rattle.search.proofs.Deep.{finished-both}
 use Rattle.search.proofs.Grows.{backs-counted}
@@ -33,11 +33,11 @@ module _ (n : ℕ) (ends : List ℕ) (k : ℕ) (s : Sifted n ends k) where
     pub explore-fit : Fit (network n ends)
     explore-fit = sift-fit n ends k s z
 
-    pub explore-apart : (q : Search) → Settled (network n ends) q → (q .number ≡ 0 → ⊥) → (r : Search) → r ≡ unsearched 6 → Explored n ends r
+    pub explore-apart : (q : Search) → Ended (network n ends) q → (q .number ≡ 0 → ⊥) → (r : Search) → r ≡ unsearched 6 → Explored n ends r
     explore-apart q (inl (c, e)) d r u = absurd (d (ap (λ (x : Search). x .number) e))
     explore-apart q (inr (c, e)) d r u = sift-connected n ends k s z (λ j. r ≡ unsearched j) (r ≡ searched (network n ends)) (inr (c, u))
 
-    pub explore-found : (r : Search) → Settled (network n ends) r → r .number ≡ 0 → Explored n ends r
+    pub explore-found : (r : Search) → Ended (network n ends) r → r .number ≡ 0 → Explored n ends r
     explore-found r (inl (c, e)) y = sift-connected n ends k s z (λ j. r ≡ unsearched j) (r ≡ searched (network n ends)) (inl (c, e))
     explore-found r (inr (c, e)) y = absurd (omega arith)
 
@@ -77,7 +77,7 @@ module _ (n : ℕ) (ends ks hs : List ℕ) (two : Bool) (is-two : two ≡ oversi
   short = cramped n ends ks hs
 
   pub orient-2 : two ≡ true → (r : Answer) → r ≡ refused 2 → Orient n ends ks hs r ks hs
-  orient-2 t r e = refuse-2 n ends short (Untouched ks hs r ks hs) (Oriented (network n ends) ks hs r ks hs) (sym is-two ∙ t) (record { answers = e; same-kinds = refl; same-heights = refl })
+  orient-2 t r e = refuse-2 n ends short (Untouched (pair ks hs) r (pair ks hs)) (Oriented (network n ends) ks hs r ks hs) (sym is-two ∙ t) (untouched e)
 
   module _ (not-two : two ≡ false) where
     in-limits : oversize n (length ends) ≡ false
@@ -85,7 +85,7 @@ module _ (n : ℕ) (ends ks hs : List ℕ) (two : Bool) (is-two : two ≡ oversi
 
     module _ (three : Bool) (is-three : three ≡ odd (length ends)) where
       orient-3 : either (odd (length ends)) short ≡ true → (r : Answer) → r ≡ refused 3 → Orient n ends ks hs r ks hs
-      orient-3 t r e = refuse-3 n ends short (Untouched ks hs r ks hs) (Oriented (network n ends) ks hs r ks hs) in-limits t (record { answers = e; same-kinds = refl; same-heights = refl })
+      orient-3 t r e = refuse-3 n ends short (Untouched (pair ks hs) r (pair ks hs)) (Oriented (network n ends) ks hs r ks hs) in-limits t (untouched e)
 
       pub orient-odd : three ≡ true → (r : Answer) → r ≡ refused 3 → Orient n ends ks hs r ks hs
       orient-odd t = orient-3 (either-first _ _ (sym is-three ∙ t))
@@ -105,15 +105,15 @@ module _ (n : ℕ) (ends ks hs : List ℕ) (two : Bool) (is-two : two ≡ oversi
 
         pub orient-refused : (q .number ≡ 0 → ⊥) → (r : Answer) → r ≡ refused (q .number) → Orient n ends ks hs r ks hs
         orient-refused d r e =
-            refuse-rest n ends short (Untouched ks hs r ks hs) (Oriented (network n ends) ks hs r ks hs) enough x
-            (λ k some (u : q ≡ unsearched k). record { answers = e ∙ ap refused (ap (λ (y : Search). y .number) u); same-kinds = refl; same-heights = refl })
+            refuse-rest n ends short (Untouched (pair ks hs) r (pair ks hs)) (Oriented (network n ends) ks hs r ks hs) enough x
+            (λ k some (u : q ≡ unsearched k). untouched (e ∙ ap refused (ap (λ (y : Search). y .number) u)))
             (λ (g : q ≡ searched (network n ends)). absurd (d (ap (λ (y : Search). y .number) g)))
 
         pub orient-done : q .number ≡ 0 → (r : Answer) (ks′ hs′ : List ℕ) → r ≡ done (length ends / 2 + 1 - n) 0
             → ks′ ≡ filled (length ends / 2) (q .kinds) ks → hs′ ≡ filled n (q .heights) hs → Orient n ends ks hs r ks′ hs′
         orient-done z r ks′ hs′ e a b =
             let backs : length ends / 2 + 1 - n ≡ back-lines (network n ends) = omega (arith, counted n ends q x z) in
-            refuse-rest n ends short (Untouched ks hs r ks′ hs′) (Oriented (network n ends) ks hs r ks′ hs′) enough x
+            refuse-rest n ends short (Untouched (pair ks hs) r (pair ks′ hs′)) (Oriented (network n ends) ks hs r ks′ hs′) enough x
             (λ k some (u : q ≡ unsearched k). absurd (let y : q .number ≡ k = ap (λ (v : Search). v .number) u in omega arith))
             (λ (g : q ≡ searched (network n ends)). record {
               answers = e ∙ ap (λ (y : ℕ). done y 0) backs;
@@ -126,6 +126,6 @@ pub orient-once : (n : ℕ) (ends ks hs : List ℕ) (r r′ : Answer) (ks′ ks�
     → (r ≡ r′) × (ks′ ≡ ks″) × (hs′ ≡ hs″)
 orient-once n ends ks hs r r′ ks′ ks″ hs′ hs″ =
     checked-once n ends (cramped n ends ks hs)
-    (λ k (a : Untouched ks hs r ks′ hs′ k) (b : Untouched ks hs r′ ks″ hs″ k). (a .answers ∙ sym (b .answers), a .same-kinds ∙ sym (b .same-kinds), a .same-heights ∙ sym (b .same-heights)))
+    two-untouched-once
     (λ (a : Oriented (network n ends) ks hs r ks′ hs′) (b : Oriented (network n ends) ks hs r′ ks″ hs″).
     (a .answers ∙ sym (b .answers), a .each-kind ∙ sym (b .each-kind), a .each-height ∙ sym (b .each-height)))

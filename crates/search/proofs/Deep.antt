@@ -12,8 +12,9 @@ use borrow.Author.Tests.{eqb-false}
 use Rattle.laws.proofs.Cases.{cases, eq-or, lt-or, true-false}
 use Rattle.network.specs.Network.{Network, touches, other}
 use Rattle.network.specs.Inside.{Fit}
+use Rattle.network.specs.Marks.{unused}
 use Rattle.network.proofs.Lines.{touches-other, touches-two, other-other, other-apart, other-in}
-use Rattle.search.specs.Machine.{State, state, unused, finds, meets, retreats, halts, start, finished}
+use Rattle.search.specs.Machine.{State, state, finds, meets, retreats, halts, start, finished}
 use Rattle.search.proofs.Steps.{Stuck-at, Next, Found, Step, finding, meeting, retreating, halting, resting, Later, later-found, step-later, run-keeps, free-touches, free-unused, free-yes}
 use Rattle.search.proofs.Sound.{Sound, Rooted, line-down, below, not-root, step-sound, start-sound, start-found}
 

@@ -15,8 +15,9 @@ use Rattle.laws.proofs.Cases.{cases, bool, eq-or}
 use Rattle.laws.proofs.Counting.{count-same, count-eq, count-split, count-not-zero, many-count}
 use Rattle.network.specs.Network.{Network, first, second, touches, other, Connected}
 use Rattle.network.specs.Inside.{Fit}
+use Rattle.network.specs.Marks.{back}
 use Rattle.network.proofs.Lines.{touches-first, touches-of, other-first, other-second, other-in}
-use Rattle.tree.specs.Tree.{back, higher, lower, climb}
+use Rattle.tree.specs.Tree.{higher, lower, climb}
 use Rattle.tree.specs.Words.{Line}
 use Rattle.tree.proofs.Searched.{Searched}
 use Rattle.tree.specs.Grown.{Grown}

@@ -13,8 +13,9 @@ use Rattle.laws.proofs.Cases.{cases, lt-or}
 use Rattle.laws.proofs.Counting.{many-le, many-take-set}
 use Rattle.network.specs.Network.{Network, other}
 use Rattle.network.specs.Inside.{Fit}
+use Rattle.network.specs.Marks.{unused}
 use Rattle.network.proofs.Lines.{other-in}
-use Rattle.search.specs.Machine.{State, state, unused, finds, meets, retreats, halts, step, run, start, finished}
+use Rattle.search.specs.Machine.{State, state, finds, meets, retreats, halts, step, run, start, finished}
 use Rattle.search.specs.Inside.{unfound, untaken}
 use Rattle.search.proofs.Steps.{Next, Step, finding, meeting, retreating, halting, resting, view, steps, run-add, free-unused}
 use Rattle.search.proofs.Sound.{Sound, not-root, step-sound, start-sound, start-unfound}

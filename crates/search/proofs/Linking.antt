@@ -7,15 +7,15 @@ use native.Mathlib.Omega.{arith}
 use lib.ListN.{getD, set, length, replicate, length-set, length-replicate, getD-replicate}
 use lib.Seq.{getD-set-same, getD-set-other}
 use Rattle.laws.proofs.Cases.{cases, eq-or}
-use Rattle.search.specs.Inside.{Halves, Onward, Chained}
+use Rattle.search.specs.Inside.{Halves, NextHalf, HalvesChained}
 
 -- the half-lines from h on are laid
 pub record Linking (ends hs ns : List ℕ) (h : ℕ) : Type 0 where
   pub heads-long : length hs ≡ 512
   pub nexts-long : length ns ≡ 4096
   pub upto : h ≤ length ends
-  pub heads : (v : ℕ) → v < 512 → Onward ends v h (getD hs v 0)
-  pub nexts : (i : ℕ) → h ≤ i → i < length ends → Onward ends (getD ends i 0) (i + 1) (getD ns i 0)
+  pub heads : (v : ℕ) → v < 512 → NextHalf ends v h (getD hs v 0)
+  pub nexts : (i : ℕ) → h ≤ i → i < length ends → NextHalf ends (getD ends i 0) (i + 1) (getD ns i 0)
 
 module _ (ends : List ℕ) where
   pub linking-start : Linking ends (replicate {A = ℕ} 512 (length ends)) (replicate {A = ℕ} 4096 (length ends)) (length ends)
@@ -25,7 +25,7 @@ module _ (ends : List ℕ) where
         nexts-long = length-replicate {A = ℕ} 4096 (length ends);
         upto = omega arith;
         heads = λ v l.
-            subst (λ (x : ℕ). Onward ends v (length ends) x) (sym (getD-replicate {A = ℕ} 512 v (length ends) 0 l))
+            subst (λ (x : ℕ). NextHalf ends v (length ends) x) (sym (getD-replicate {A = ℕ} 512 v (length ends) 0 l))
             (record { from = omega arith; upto = omega arith; at = λ i. absurd (omega arith); between = λ j a b e. omega arith });
         nexts = λ i a b. absurd (omega arith);
       }
@@ -49,11 +49,11 @@ module _ (ends : List ℕ) where
             heads = λ u u-in.
                 cases (eq-or u v)
                 (λ e.
-                subst (λ (x : ℕ). Onward ends u (h - 1) x) (sym (ap (λ (y : ℕ). getD (set hs v (h - 1)) y 0) e ∙ getD-set-same hs v (h - 1) 0 (omega (arith, l .heads-long))))
+                subst (λ (x : ℕ). NextHalf ends u (h - 1) x) (sym (ap (λ (y : ℕ). getD (set hs v (h - 1)) y 0) e ∙ getD-set-same hs v (h - 1) 0 (omega (arith, l .heads-long))))
                 (record { from = omega arith; upto = omega arith; at = λ i. sym (is-v .0) ∙ sym e; between = λ j a b f. omega arith }))
                 (λ d.
                 let o = l .heads u u-in in
-                subst (λ (x : ℕ). Onward ends u (h - 1) x) (sym (getD-set-other hs v u (h - 1) 0 d))
+                subst (λ (x : ℕ). NextHalf ends u (h - 1) x) (sym (getD-set-other hs v u (h - 1) 0 d))
                 (record {
                   from = omega (arith, o .from);
                   upto = o .upto;
@@ -70,10 +70,10 @@ module _ (ends : List ℕ) where
                 rw (e, one, getD-set-same ns (h - 1) (getD hs v 0) 0 (omega (arith, l .nexts-long, halves .few)), ← (is-v .0)) (l .heads v at-v))
                 (λ d.
                 let d′ : i ≢ h - 1 = d in
-                subst (λ (x : ℕ). Onward ends (getD ends i 0) (i + 1) x) (sym (getD-set-other ns (h - 1) i (getD hs v 0) 0 d)) (l .nexts i (omega arith) b));
+                subst (λ (x : ℕ). NextHalf ends (getD ends i 0) (i + 1) x) (sym (getD-set-other ns (h - 1) i (getD hs v 0) 0 d)) (l .nexts i (omega arith) b));
           }
 
-  pub linking-done : (hs ns : List ℕ) (h : ℕ) → Linking ends hs ns h → h ≤ 0 → Chained ends hs ns
+  pub linking-done : (hs ns : List ℕ) (h : ℕ) → Linking ends hs ns h → h ≤ 0 → HalvesChained ends hs ns
   linking-done hs ns h l z =
       let e : h ≡ 0 = omega arith in
       record {

@@ -14,8 +14,9 @@ use Rattle.laws.proofs.Cases.{cases, eq-or, true-false}
 use Rattle.laws.proofs.Tests.{all-yes, all-of}
 use Rattle.network.specs.Network.{Network, touches, other, joins, Path, here, along, Connected}
 use Rattle.network.specs.Inside.{Fit}
+use Rattle.network.specs.Marks.{unused}
 use Rattle.network.proofs.Lines.{touches-other, joins-other, joins-is, joins-touches, other-in, path-join, path-turn}
-use Rattle.search.specs.Machine.{State, unused, finished}
+use Rattle.search.specs.Machine.{State, finished}
 use Rattle.search.specs.Inside.{everyone}
 use Rattle.search.proofs.Steps.{Found, free-yes}
 use Rattle.search.proofs.Sound.{Sound, below}

@@ -12,11 +12,11 @@ use Rattle.laws.specs.Counting.{many}
 use Rattle.laws.proofs.Cases.{cases, true-false}
 use Rattle.laws.proofs.Tests.{either-neither}
 use Rattle.network.specs.Network.{network, touches, other, joins}
-use Rattle.network.specs.Numbers.{refused, oversize, odd, astray, looped, doubled, mispaired}
+use Rattle.network.specs.Numbers.{refused, oversize, odd, astray, looped, doubled, mispaired, Untouched}
 use Rattle.network.specs.declared.Answer.{Answer}
 use Rattle.network.proofs.Sifting.{fit-when}
 use Rattle.search.specs.Machine.{free, lowest-free, take-line, leave, go, step, run, start, finished}
-use Rattle.search.specs.Orient.{Orient, Untouched, Oriented, cramped, back-lines}
+use Rattle.search.specs.Orient.{Orient, Oriented, cramped, back-lines}
 use Rattle.search.specs.Inside.{everyone}
 use Rattle.search.proofs.Reached.{connected-of}
 

@@ -10,9 +10,9 @@ use borrow.Author.Tests.{eqb-false}
 use Rattle.laws.proofs.Cases.{cases, true-false}
 use Rattle.network.specs.Network.{Network, network-of, Connected}
 use Rattle.network.specs.Inside.{Fit}
-use Rattle.search.specs.Machine.{State, state, unused, halts, run, start, finished}
+use Rattle.search.specs.Machine.{State, state, halts, run, start, finished}
 use Rattle.search.specs.Orient.{searched}
-use Rattle.search.specs.Inside.{Halves, Ready, Visited, everyone, Settled}
+use Rattle.search.specs.Inside.{Halves, Ready, Visited, everyone, Ended}
 use Rattle.search.specs.declared.Search.{Search}
 use Rattle.search.proofs.Steps.{Later, halting, run-later, run-one, run-then}
 use Rattle.search.proofs.Sound.{start-unfound}
@@ -60,12 +60,12 @@ module _ (n m : ℕ) (ends : List ℕ) (fit : Fit (network-of n m ends)) where
         finished-is net fit (v .steps + 1) (halts net (state 0 ks fs hs ps))
         (run-then net (v .steps) 1 start _ _ runs (run-one net _ _ (halting (fit .some-vertex) (v .stuck) at-root))) (omega arith)
 
-    pub settle-found : (b : Bool) → b ≡ everyone n fs → b ≡ true → Settled net (record { number = 0; kinds = ks; heights = hs; parents = ps })
+    pub settle-found : (b : Bool) → b ≡ everyone n fs → b ≡ true → Ended net (record { number = 0; kinds = ks; heights = hs; parents = ps })
     settle-found b is t =
         inl (
           connected-of net fit (ap (λ (u : State). everyone n (u .found)) ended ∙ sym is ∙ t),
           let e = ended in rw e refl,
         )
 
-    pub settle-apart : (b : Bool) → b ≡ everyone n fs → b ≡ false → Settled net (record { number = 6; kinds = ks; heights = hs; parents = ps })
+    pub settle-apart : (b : Bool) → b ≡ everyone n fs → b ≡ false → Ended net (record { number = 6; kinds = ks; heights = hs; parents = ps })
     settle-apart b is f = inr (connected-no net fit (ap (λ (u : State). everyone n (u .found)) ended ∙ sym is ∙ f), refl)

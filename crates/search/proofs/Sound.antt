@@ -14,8 +14,9 @@ use Rattle.laws.proofs.Cases.{cases, eq-or, lt-or}
 use Rattle.laws.proofs.Counting.{many-le, many-take-set}
 use Rattle.network.specs.Network.{Network, touches, other}
 use Rattle.network.specs.Inside.{Fit}
+use Rattle.network.specs.Marks.{unused}
 use Rattle.network.proofs.Lines.{touches-other, other-other, other-in}
-use Rattle.search.specs.Machine.{State, unused, finds, meets, retreats, halts, start}
+use Rattle.search.specs.Machine.{State, finds, meets, retreats, halts, start}
 use Rattle.search.specs.Inside.{unfound}
 use Rattle.search.proofs.Steps.{Next, Found, Step, finding, meeting, retreating, halting, resting, Later, later-found, step-later, free-touches}
 

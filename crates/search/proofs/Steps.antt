@@ -15,7 +15,8 @@ use Rattle.laws.specs.Tests.{both, least}
 use Rattle.laws.proofs.Cases.{cases, bool, true-false, eq-or, lt-or}
 use Rattle.laws.proofs.Tests.{both-yes, both-of, both-no-first, First, least-is, least-none, least-same, least-cases}
 use Rattle.network.specs.Network.{Network, first, second, touches, other}
-use Rattle.search.specs.Machine.{State, state, unused, free, lowest-free, next, finds, meets, retreats, halts, take-line, leave, go, step, run}
+use Rattle.network.specs.Marks.{unused}
+use Rattle.search.specs.Machine.{State, state, free, lowest-free, next, finds, meets, retreats, halts, take-line, leave, go, step, run}
 
 -- Free lines
 

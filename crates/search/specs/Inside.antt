@@ -9,7 +9,8 @@ use Rattle.laws.specs.Checks.{check}
 use Rattle.laws.specs.Counting.{many}
 use Rattle.laws.specs.Tests.{all}
 use Rattle.network.specs.Network.{Network, Connected}
-use Rattle.search.specs.Machine.{State, unused, free, run, finished}
+use Rattle.network.specs.Marks.{tree, unused}
+use Rattle.search.specs.Machine.{State, free, run, finished}
 use Rattle.search.specs.Orient.{searched}
 use Rattle.search.specs.declared.Search.{Search}
 
@@ -28,18 +29,18 @@ pub record Halved (h : ℕ) (ends : List ℕ) : Type 0 where
   pub other-half : partner h < length ends
 
 -- The first half-line at v from place i on is h, or there is none and h is the end of the list.
-pub record Onward (ends : List ℕ) (v i h : ℕ) : Type 0 where
+pub record NextHalf (ends : List ℕ) (v i h : ℕ) : Type 0 where
   pub from : i ≤ h
   pub upto : h ≤ length ends
   pub at : h < length ends → getD ends h 0 ≡ v
   pub between : (j : ℕ) → i ≤ j → j < h → getD ends j 0 ≡ v → ⊥
 
 -- Each vertex's first half-line, and each half-line's next one at the same vertex.
-pub record Chained (ends hs ns : List ℕ) : Type 0 where
+pub record HalvesChained (ends hs ns : List ℕ) : Type 0 where
   pub heads-long : length hs ≡ 512
   pub nexts-long : length ns ≡ 4096
-  pub heads : (v : ℕ) → v < 512 → Onward ends v 0 (getD hs v 0)
-  pub nexts : (h : ℕ) → h < length ends → Onward ends (getD ends h 0) (h + 1) (getD ns h 0)
+  pub heads : (v : ℕ) → v < 512 → NextHalf ends v 0 (getD hs v 0)
+  pub nexts : (h : ℕ) → h < length ends → NextHalf ends (getD ends h 0) (h + 1) (getD ns h 0)
 
 -- How many vertices are not found, and how many lines are not used.
 abbrev pub unfound : ℕ → List ℕ → ℕ
@@ -75,7 +76,7 @@ pub record Enterable (n m v w k : ℕ) (ks fs hs ps : List ℕ) : Type 0 where
 
 -- `enter` has gone up line k from v to w.
 pub record Entered (n m v w k : ℕ) (ks fs hs ps ks′ fs′ hs′ ps′ : List ℕ) : Type 0 where
-  pub kinds : ks′ ≡ set ks k 0
+  pub kinds : ks′ ≡ set ks k tree
   pub founds : fs′ ≡ set fs w 1
   pub heights : hs′ ≡ set hs w (getD hs v 0 + 1)
   pub parents : ps′ ≡ set ps w k
@@ -95,5 +96,5 @@ unfoldable pub everyone : ℕ → List ℕ → Bool
 everyone n fs = all (λ v. not (eqb (getD fs v 0) 0)) n
 
 -- The search has come to its end: 0 and its tables where the network is connected, else 6.
-abbrev pub Settled : Network → Search → Type 0
-Settled net r = check (Connected net) (r ≡ searched net) (r .number ≡ 6)
+abbrev pub Ended : Network → Search → Type 0
+Ended net r = check (Connected net) (r ≡ searched net) (r .number ≡ 6)

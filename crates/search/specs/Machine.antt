@@ -6,11 +6,8 @@ use lib.Dec.{eqb, ltb}
 use lib.ListN.{getD, set, replicate, drop}
 use Rattle.laws.specs.Tests.{both}
 use Rattle.network.specs.Network.{Network, touches, other}
-use Rattle.tree.specs.Tree.{Tree, tree, back, tree-of}
-
--- A line that is not yet used is neither a tree line nor a back line.
-abbrev pub unused : ℕ
-unused = 3
+use Rattle.network.specs.Marks.{tree, back, unused}
+use Rattle.tree.specs.Tree.{Tree, tree-of}
 
 -- Where the search stands, what each line is, and of each vertex whether it is found (1) or not (0), its height, and the line that found it.
 -- The tables are as long as the limits.

@@ -9,9 +9,9 @@ use Rattle.laws.specs.Tests.{either}
 use Rattle.laws.specs.Counting.{many}
 use Rattle.laws.specs.Lists.{filled}
 use Rattle.network.specs.Network.{Network, network}
-use Rattle.network.specs.Numbers.{refused, done, Checked}
+use Rattle.network.specs.Numbers.{done, Checked, Untouched, pair}
 use Rattle.network.specs.declared.Answer.{Answer}
-use Rattle.tree.specs.Tree.{back}
+use Rattle.network.specs.Marks.{back}
 use Rattle.search.specs.Machine.{finished}
 use Rattle.search.specs.declared.Search.{Search}
 
@@ -23,12 +23,6 @@ back-lines net = many back (take (net .lines) (finished net .kind))
 unfoldable pub cramped : ℕ → List ℕ → List ℕ → List ℕ → Bool
 cramped n ends kinds heights = either (ltb (length kinds) (length ends / 2)) (ltb (length heights) n)
 
--- A refusal answers its number and changes nothing.
-pub record Untouched (kinds heights : List ℕ) (r : Answer) (kinds′ heights′ : List ℕ) (k : ℕ) : Type 0 where
-  pub answers : r ≡ refused k
-  pub same-kinds : kinds′ ≡ kinds
-  pub same-heights : heights′ ≡ heights
-
 -- With 0, the number of back lines, what each line is, and each vertex's height.
 pub record Oriented (net : Network) (kinds heights : List ℕ) (r : Answer) (kinds′ heights′ : List ℕ) : Type 0 where
   pub answers : r ≡ done (back-lines net) 0
@@ -37,7 +31,7 @@ pub record Oriented (net : Network) (kinds heights : List ℕ) (r : Answer) (kin
 
 abbrev pub Orient : ℕ → List ℕ → List ℕ → List ℕ → Answer → List ℕ → List ℕ → Type 0
 Orient n ends kinds heights r kinds′ heights′ =
-    Checked n ends (cramped n ends kinds heights) (Untouched kinds heights r kinds′ heights′) (Oriented (network n ends) kinds heights r kinds′ heights′)
+    Checked n ends (cramped n ends kinds heights) (Untouched (pair kinds heights) r (pair kinds′ heights′)) (Oriented (network n ends) kinds heights r kinds′ heights′)
 
 -- What every call that needs the tree is given: the number of the network's own refusal and empty tables, or 0 and the tables of the search.
 abbrev pub unsearched : ℕ → Search

@@ -12,8 +12,9 @@ ghost use lib.ListN.{length};
 ghost use Rattle.network.specs.Network.{network, «network-of»};
 ghost use Rattle.network.specs.Inside.{Fit};
 ghost use Rattle.search.specs.Orient.{Orient, Explored, unsearched};
-ghost use Rattle.search.specs.Inside.{Settled, everyone};
+ghost use Rattle.search.specs.Inside.{Ended, everyone};
 use network::Answer;
+use network::Kind;
 
 // A finished search: with 0, what each line is (0 tree, 1 back), how high each vertex stands, and by which line it was found; with the number
 // of a refusal, nothing.
@@ -85,12 +86,12 @@ pub fn explore(vertices: usize, ends: &[u16]) -> Search
 // The whole search from vertex 0. Its number is 0 where every vertex was found, else 6.
 fn settle(vertices: usize, lines: usize, ends: &[u16]) -> Search
     requires { ⌜ Fit (network-of vertices lines (now ends)) ⌝ }
-    ensures { λ r. ⌜ Settled (network-of vertices lines (now (ends .entry))) r ⌝ }
+    ensures { λ r. ⌜ Ended (network-of vertices lines (now (ends .entry))) r ⌝ }
 {
     let chain = chains::chained(ends);
     let heads = chain.heads;
     let nexts = chain.nexts;
-    let mut kinds = [3u8; 2048];
+    let mut kinds = [Kind::UNUSED; 2048];
     let mut found = [0u8; 512];
     let mut heights = [0u16; 512];
     let mut parents = [0u16; 512];

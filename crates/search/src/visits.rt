@@ -5,7 +5,8 @@ ghost use lib.ListN.{length, getD};
 ghost use Rattle.network.specs.Network.{«network-of»};
 ghost use Rattle.network.specs.Inside.{Fit};
 ghost use Rattle.search.specs.Machine.{state};
-ghost use Rattle.search.specs.Inside.{Chained, partner, Halved, Enterable, Entered, Ready, Visited};
+ghost use Rattle.search.specs.Inside.{HalvesChained, partner, Halved, Enterable, Entered, Ready, Visited};
+use network::Kind;
 use network::wide;
 
 // Visits v, which is found: goes along each line at v that is unused when its turn comes, the lowest number first, and returns.
@@ -22,7 +23,7 @@ pub(crate) fn visit(
     parents: &mut [u16; 512],
 )
     requires { ⌜ Fit (network-of vertices lines (now ends)) ⌝ }
-    requires { ⌜ Chained (now ends) (now heads) (now nexts) ⌝ }
+    requires { ⌜ HalvesChained (now ends) (now heads) (now nexts) ⌝ }
     requires { ⌜ Ready (network-of vertices lines (now ends)) (state v (now kinds) (now found) (now heights) (now parents)) ⌝ }
     ensures { λ _. ⌜ Visited (network-of vertices lines (now (ends .entry)))
         (state v (now (kinds .entry)) (now (found .entry)) (now (heights .entry)) (now (parents .entry)))
@@ -32,7 +33,7 @@ pub(crate) fn visit(
     while h < 2 * lines {
         let after = wide(nexts[h]);
         let k = h / 2;
-        if kinds[k] == 3 {
+        if kinds[k] == Kind::UNUSED {
             let w = far(ends, h);
             if found[w] == 0 {
                 enter(vertices, lines, v, w, k, kinds, found, heights, parents);
@@ -49,7 +50,7 @@ pub(crate) fn visit(
                     parents,
                 );
             } else {
-                kinds[k] = 1;
+                kinds[k] = Kind::BACK;
             }
         }
         h = after;
@@ -84,7 +85,7 @@ fn enter(
     ensures { λ _. ⌜ Entered vertices lines v w k (now (kinds .entry)) (now (found .entry)) (now (heights .entry)) (now (parents .entry))
         (now (kinds .exit)) (now (found .exit)) (now (heights .exit)) (now (parents .exit)) ⌝ }
 {
-    kinds[k] = 0;
+    kinds[k] = Kind::TREE;
     found[w] = 1;
     heights[w] = heights[v] + 1;
     parents[w] = k as u16;

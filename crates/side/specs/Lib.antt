@@ -1,2 +1,2 @@
--- The two sides as numbers.
+-- The two sides, and the kinds of constraint, as numbers.
 pub mod Sides

@@ -1,4 +1,4 @@
--- The two sides, and what stands where there is none. (docs/RULES.md, "Choices".)
+-- The two sides, what stands where there is none, and what a constraint asks of two lines' sides. (docs/RULES.md, "Choices" and "Forks".)
 use mathlib.Core.Bool.{cond}
 use Prim.Native.Nat.{ℕ}
 use lib.Dec.{eqb}
@@ -15,3 +15,10 @@ none = 2
 
 unfoldable pub opposite : ℕ → ℕ
 opposite side = cond (eqb side left) right left
+
+-- A constraint's kind: the two lines lie on the same side, or on different sides.
+abbrev pub same : ℕ
+same = 0
+
+abbrev pub different : ℕ
+different = 1

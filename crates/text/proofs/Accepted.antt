@@ -12,7 +12,7 @@ use Rattle.laws.specs.Lists.{filled}
 use Rattle.laws.proofs.Cases.{cases, bool, true-false}
 use Rattle.laws.proofs.Checks.{check-once}
 use Rattle.laws.proofs.Tests.{either-no, either-neither}
-use Rattle.network.specs.Numbers.{refused, done, oversize, odd, astray, Formed, Checked}
+use Rattle.network.specs.Numbers.{done, oversize, odd, astray, Formed, Checked, Untouched}
 use Rattle.network.specs.declared.Answer.{Answer}
 use Rattle.text.specs.Text.{room, text-of, vertices-in, lines-in, ends-in, has-form}
 use Rattle.text.specs.Calls.{Read, Write}
@@ -67,18 +67,14 @@ pub sound-inside : (n : ℕ) (ends : List ℕ) → Sound n ends → astray n end
 sound-inside n ends (inl (p, a)) = absurd a
 sound-inside n ends (inr (p, s)) = cases (bool (astray n ends)) (λ t. absurd (p t)) (λ f. f)
 
--- a refusal, with the buffer as it was
-abbrev pub Kept : Answer → List ℕ → List ℕ → ℕ → Type 0
-Kept r old new k = (r ≡ refused k) × (new ≡ old)
-
 is-false : {b : Bool} → (b ≡ true → ⊥) → b ≡ false
 is-false {b} d = cases (bool b) (λ t. absurd (d t)) (λ f. f)
 
 is-true : {b : Bool} → (b ≡ false → ⊥) → b ≡ true
 is-true {b} d = cases (bool b) (λ t. t) (λ f. absurd (d f))
 
-not-done : {r : Answer} {old new : List ℕ} → r .number ≡ 0 → (k : ℕ) → 0 < k → Kept r old new k → ⊥
-not-done z k h a = let e = ap (λ (x : Answer). x .number) (a .0) in omega arith
+not-done : {r : Answer} {old new : List ℕ} → r .number ≡ 0 → (k : ℕ) → 0 < k → Untouched old r new k → ⊥
+not-done z k h a = let e = ap (λ (x : Answer). x .number) (a .answers) in omega arith
 
 -- Read
 
@@ -104,14 +100,14 @@ pub read-accepts : (text ends : List ℕ) (r : Answer) (ends′ : List ℕ) → 
 read-accepts text ends r ends′ w (inl (p, a)) = true-false (w .form) p
 read-accepts text ends r ends′ w (inr (f, inl (p, a))) = true-false p (w .sized)
 read-accepts text ends r ends′ w (inr (f, inr (s, inl (p, a)))) = true-false p (le-ltb _ _ (w .roomy))
-read-accepts text ends r ends′ w (inr (f, inr (s, inr (l, g)))) = sound-formed (vertices-in text) (ends-in text) (Kept r ends ends′) (w .sound) g
+read-accepts text ends r ends′ w (inr (f, inr (s, inr (l, g)))) = sound-formed (vertices-in text) (ends-in text) (Untouched ends r ends′) (w .sound) g
 
-pub read-formless : (text ends : List ℕ) (r : Answer) (ends′ : List ℕ) → has-form text ≡ false → Read text ends r ends′ → Kept r ends ends′ 1
+pub read-formless : (text ends : List ℕ) (r : Answer) (ends′ : List ℕ) → has-form text ≡ false → Read text ends r ends′ → Untouched ends r ends′ 1
 read-formless text ends r ends′ f (inl (p, a)) = a
 read-formless text ends r ends′ f (inr (n, x)) = absurd (n f)
 
 pub read-oversize : (text ends : List ℕ) (r : Answer) (ends′ : List ℕ) → has-form text ≡ true → oversize (vertices-in text) (2 * lines-in text) ≡ true
-    → Read text ends r ends′ → Kept r ends ends′ 2
+    → Read text ends r ends′ → Untouched ends r ends′ 2
 read-oversize text ends r ends′ t o (inl (p, a)) = true-false t p
 read-oversize text ends r ends′ t o (inr (f, inl (p, a))) = a
 read-oversize text ends r ends′ t o (inr (f, inr (n, x))) = absurd (n o)
@@ -140,4 +136,4 @@ write-done n ends text r text′ z (inr (s, inr (l, g))) =
 pub write-grants : (n : ℕ) (ends text : List ℕ) (r : Answer) (text′ : List ℕ) → Grants n ends text → Write n ends text r text′ → Gave n ends text r text′
 write-grants n ends text r text′ w (inl (p, a)) = true-false p (w .sized)
 write-grants n ends text r text′ w (inr (s, inl (p, a))) = true-false p (either-no (w .paired) (le-ltb _ _ (w .roomy)))
-write-grants n ends text r text′ w (inr (s, inr (l, g))) = sound-formed n ends (Kept r text text′) (w .sound) g
+write-grants n ends text r text′ w (inr (s, inr (l, g))) = sound-formed n ends (Untouched text r text′) (w .sound) g

@@ -8,10 +8,10 @@ use native.Mathlib.Omega.{arith}
 use lib.ListN.{getD, length, take}
 use Rattle.laws.specs.Lists.{filled}
 use Rattle.laws.proofs.Checks.{check-once}
-use Rattle.network.specs.Numbers.{refused, done, oversize}
+use Rattle.network.specs.Numbers.{done, oversize}
 use Rattle.network.specs.declared.Answer.{Answer}
 use Rattle.network.proofs.Checks.{sized, even, none-astray}
-use Rattle.network.proofs.Sifting.{checked-once}
+use Rattle.network.proofs.Sifting.{checked-once, untouched-once}
 use Rattle.text.specs.Text.{room, text-of, vertices-in, lines-in, ends-in}
 use Rattle.text.specs.Calls.{Read, Write}
 use Rattle.text.proofs.TextBack.{form-of, length-ends-in, text-again, length-text, lines-again, vertices-again, ends-again, text-has-form}
@@ -23,10 +23,11 @@ alike : {A B : Type 0} {r r′ a : A} {b b′ c : B} → (r ≡ a) × (b ≡ c) 
 alike x y = (x .0 ∙ sym (y .0), x .1 ∙ sym (y .1))
 
 pub read-once : (text ends : List ℕ) (r r′ : Answer) (a a′ : List ℕ) → Read text ends r a → Read text ends r′ a′ → (r ≡ r′) × (a ≡ a′)
-read-once text ends r r′ a a′ = check-once alike (check-once alike (check-once alike (formed-once (vertices-in text) (ends-in text) (λ k. alike {a = refused k} {c = ends}) alike)))
+read-once text ends r r′ a a′ =
+    check-once (untouched-once 1) (check-once (untouched-once 2) (check-once (untouched-once 3) (formed-once (vertices-in text) (ends-in text) untouched-once alike)))
 
 pub write-once : (n : ℕ) (ends text : List ℕ) (r r′ : Answer) (a a′ : List ℕ) → Write n ends text r a → Write n ends text r′ a′ → (r ≡ r′) × (a ≡ a′)
-write-once n ends text r r′ a a′ = checked-once n ends _ (λ k. alike {a = refused k} {c = text}) alike
+write-once n ends text r r′ a a′ = checked-once n ends _ untouched-once alike
 
 -- Read, then written
 

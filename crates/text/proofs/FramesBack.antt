@@ -11,22 +11,22 @@ use lib.Seq.{length-take-le, take-at, drop-at, drop-cons, drop-drop, getD-take, 
 use borrow.Author.Tests.{eq-eqb, ne-eqb, eqb-true}
 use Rattle.laws.proofs.Cases.{cases, lt-or}
 use Rattle.digits.specs.Digits.{is-digit, digits, word}
-use Rattle.text.specs.Text.{feed, frame, frames, numbers, right}
+use Rattle.text.specs.Text.{feed, frame, frames, numbers, well-placed}
 use Rattle.digits.proofs.Back.{length-digits, digits-are, number-digits, digits-number}
 
 -- What a place should hold
 
-pub right-digit : (t : List ℕ) (i : ℕ) → i % 9 < 8 → right t i ≡ is-digit (getD t i 0)
-unfolding right
+pub right-digit : (t : List ℕ) (i : ℕ) → i % 9 < 8 → well-placed t i ≡ is-digit (getD t i 0)
+unfolding well-placed
 right-digit t i h = rw (ne-eqb (i % 9) 8 (λ e. omega arith))
 
-pub right-feed : (t : List ℕ) (i : ℕ) → i % 9 ≡ 8 → right t i ≡ eqb (getD t i 0) feed
-unfolding right
+pub right-feed : (t : List ℕ) (i : ℕ) → i % 9 ≡ 8 → well-placed t i ≡ eqb (getD t i 0) feed
+unfolding well-placed
 right-feed t i e = rw (eq-eqb (i % 9) 8 e)
 
 -- a frame further on
-right-drop : (t : List ℕ) (i : ℕ) → right (drop 9 t) i ≡ right t (9 + i)
-unfolding right
+right-drop : (t : List ℕ) (i : ℕ) → well-placed (drop 9 t) i ≡ well-placed t (9 + i)
+unfolding well-placed
 right-drop t i = let same : (9 + i) % 9 ≡ i % 9 = omega arith in rw (same, getD-drop 9 t i 0)
 
 -- Four digits at the beginning of a text
@@ -71,7 +71,7 @@ module _ (a b : ℕ) (r : List ℕ) where
 getD-past : (p q : List ℕ) (n i : ℕ) → length p ≡ n → n ≤ i → getD (p ++ q) i 0 ≡ getD q (i - n) 0
 getD-past p q n i e h = let at : i ≡ length p + (i - n) = omega arith in ap (λ k. getD (p ++ q) k 0) at ∙ getD-append-add p q (i - n) 0
 
-frame-right : (a b : ℕ) (r : List ℕ) (i : ℕ) → i < 9 → right (frame a b ++ r) i ≡ true
+frame-right : (a b : ℕ) (r : List ℕ) (i : ℕ) → i < 9 → well-placed (frame a b ++ r) i ≡ true
 frame-right a b r i h =
     rw (frame-before a b r)
     (cases (lt-or i 4)
@@ -116,7 +116,7 @@ numbers-frames (suc m) (a ∷ b ∷ l) e s =
     rw (frames-two a b l, frame-first a b (frames l) (s 0 (suc-le-suc zero-le)), frame-second a b (frames l) (s 1 (suc-le-suc (suc-le-suc zero-le))), frame-rest a b (frames l))
     (ap (λ z. a ∷ b ∷ z) (numbers-frames m l (omega arith) (λ i h. s (suc (suc i)) (suc-le-suc (suc-le-suc h)))))
 
-pub frames-right : (m : ℕ) (l : List ℕ) → length l ≡ 2 * m → (i : ℕ) → i < 9 * m → right (frames l) i ≡ true
+pub frames-right : (m : ℕ) (l : List ℕ) → length l ≡ 2 * m → (i : ℕ) → i < 9 * m → well-placed (frames l) i ≡ true
 frames-right zero l e i h = absurd (omega arith)
 frames-right (suc m) [] e i h = absurd (omega arith)
 frames-right (suc m) (a ∷ []) e i h = absurd (omega arith)
@@ -129,7 +129,7 @@ frames-right (suc m) (a ∷ b ∷ l) e i h =
     let later = frames-right m l (omega arith) (i - 9) (omega arith) in
     rw on (sym (right-drop (frame a b ++ frames l) (i - 9)) ∙ rw (frame-rest a b (frames l)) later)))
 
-pub frames-numbers : (m : ℕ) (t : List ℕ) → length t ≡ 9 * m → ((i : ℕ) → i < 9 * m → right t i ≡ true) → frames (numbers m t) ≡ t
+pub frames-numbers : (m : ℕ) (t : List ℕ) → length t ≡ 9 * m → ((i : ℕ) → i < 9 * m → well-placed t i ≡ true) → frames (numbers m t) ≡ t
 unfolding numbers
 frames-numbers zero [] e g = unfold frames in refl
 frames-numbers zero (x ∷ t) e g = absurd (omega arith)

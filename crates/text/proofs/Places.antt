@@ -10,7 +10,7 @@ use borrow.Author.Tests.{not-false}
 use Rattle.laws.specs.Tests.{all}
 use Rattle.laws.proofs.Cases.{cases, bool, true-false, lt-or}
 use Rattle.laws.proofs.Tests.{all-of, all-yes}
-use Rattle.text.specs.Text.{feed, room, lines-in, right, has-form}
+use Rattle.text.specs.Text.{feed, room, lines-in, well-placed, has-form}
 use Rattle.digits.specs.Inside.{is-word, Word, Number}
 use Rattle.text.specs.Inside.{is-frame, Opened, Form}
 use Rattle.text.proofs.FramesBack.{right-digit, right-feed}
@@ -22,7 +22,7 @@ contrary {a} {b} f e = cases (bool a) (λ t. true-false (f t) e) (λ q. sym q)
 
 -- One frame
 
-word-right : (text : List ℕ) (at : ℕ) → at % 9 ≤ 4 → ((i : ℕ) → i < 4 → right text (at + i) ≡ true) → is-word text at ≡ true
+word-right : (text : List ℕ) (at : ℕ) → at % 9 ≤ 4 → ((i : ℕ) → i < 4 → well-placed text (at + i) ≡ true) → is-word text at ≡ true
 unfolding is-word
 word-right text at h r = all-yes _ 4 (λ i k. sym (right-digit text (at + i) (omega arith)) ∙ r i k)
 
@@ -31,11 +31,11 @@ pub form-word : (text : List ℕ) → Form text → (at : ℕ) → at + 4 ≤ le
 form-word text f at h m = record { within = h; digits = word-right text at m (λ i k. f .places (at + i) (omega arith)) }
 
 module _ (text : List ℕ) (k : ℕ) where
-  frame-of : is-frame text k ≡ true → (i : ℕ) → i < 9 → right text (9 * k + i) ≡ true
+  frame-of : is-frame text k ≡ true → (i : ℕ) → i < 9 → well-placed text (9 * k + i) ≡ true
   unfolding is-frame
   frame-of t i h = all-of _ 9 t i h
 
-  frame-by : ((i : ℕ) → i < 9 → right text (9 * k + i) ≡ true) → is-frame text k ≡ true
+  frame-by : ((i : ℕ) → i < 9 → well-placed text (9 * k + i) ≡ true) → is-frame text k ≡ true
   unfolding is-frame
   frame-by r = all-yes _ 9 r
 
@@ -78,7 +78,7 @@ module _ (text : List ℕ) (k : ℕ) where
 -- the places of the first k frames are right
 pub record Rights (text : List ℕ) (lines k : ℕ) : Type 0 where
   pub upto : k ≤ lines + 1
-  pub places : (i : ℕ) → i < 9 * k → right text i ≡ true
+  pub places : (i : ℕ) → i < 9 * k → well-placed text i ≡ true
 
 module _ (text : List ℕ) (lines : ℕ) (o : Opened text lines) where
   pub rights-start : Rights text lines 1
@@ -98,14 +98,14 @@ module _ (text : List ℕ) (lines : ℕ) (o : Opened text lines) where
               (λ l′. let at : 9 * k + (i - 9 * k) ≡ i = omega arith in rw at at (frame-of text k (sym is ∙ t) (i - 9 * k) (omega arith)));
         }
 
-    pub rights-no : r ≡ false → false ≡ all (right text) (length text)
+    pub rights-no : r ≡ false → false ≡ all (well-placed text) (length text)
     rights-no f =
         contrary
-        (λ t. frame-by text k (λ i l. all-of (right text) (length text) t (9 * k + i) (omega (arith, o .long))))
+        (λ t. frame-by text k (λ i l. all-of (well-placed text) (length text) t (9 * k + i) (omega (arith, o .long))))
         (sym is ∙ f)
 
-  pub rights-all : (k : ℕ) → Rights text lines k → lines < k → true ≡ all (right text) (length text)
-  rights-all k s h = sym (all-yes (right text) (length text) (λ i l. s .places i (omega (arith, o .long))))
+  pub rights-all : (k : ℕ) → Rights text lines k → lines < k → true ≡ all (well-placed text) (length text)
+  rights-all k s h = sym (all-yes (well-placed text) (length text) (λ i l. s .places i (omega (arith, o .long))))
 
 -- The form
 
@@ -129,9 +129,9 @@ module _ (text : List ℕ) where
           pub opened : Opened text lines
           opened = record { long = long; few = is .small; first = sym is-first ∙ not-false first right-first }
 
-          pub form-last : (r : Bool) → r ≡ all (right text) (length text) → r ≡ has-form text
+          pub form-last : (r : Bool) → r ≡ all (well-placed text) (length text) → r ≡ has-form text
           form-last r e =
               let room-is : length text ≡ room (lines-in text) = rw (is .said) at long in
-              cases (bool (all (right text) (length text)))
-              (λ t. e ∙ t ∙ sym (form-yes text (record { long = room-is; places = all-of (right text) (length text) t })))
-              (λ f. e ∙ f ∙ contrary (λ t. all-yes (right text) (length text) (form-of text t .places)) f)
+              cases (bool (all (well-placed text) (length text)))
+              (λ t. e ∙ t ∙ sym (form-yes text (record { long = room-is; places = all-of (well-placed text) (length text) t })))
+              (λ f. e ∙ f ∙ contrary (λ t. all-yes (well-placed text) (length text) (form-of text t .places)) f)

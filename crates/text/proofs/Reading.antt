@@ -2,7 +2,7 @@
 use mathlib.Core.Bool.{Bool, true, false, not}
 use mathlib.Core.List.{List}
 use mathlib.Core.Logic.{inl, inr}
-use mathlib.Core.Path.{_≡_, refl, sym, _∙_, ap, subst}
+use mathlib.Core.Path.{_≡_, sym, _∙_, ap, subst}
 use Prim.Native.Nat.{ℕ, _*_, _≤_, _<_}
 use native.Mathlib.Omega.{arith}
 use lib.Dec.{ltb}
@@ -14,9 +14,10 @@ use Rattle.laws.specs.Lists.{filled}
 use Rattle.laws.proofs.Cases.{true-false}
 use Rattle.laws.proofs.Filling.{filled-long}
 use Rattle.network.specs.Network.{network}
-use Rattle.network.specs.Numbers.{refused, done, oversize, Formed}
+use Rattle.network.specs.Numbers.{refused, done, oversize, Formed, Untouched}
 use Rattle.network.specs.declared.Answer.{Answer}
 use Rattle.network.proofs.Checks.{sized}
+use Rattle.network.proofs.Sifting.{untouched}
 use Rattle.search.specs.Orient.{Explored, unsearched, searched}
 use Rattle.search.specs.declared.Search.{Search}
 use Rattle.text.specs.Text.{ends-in, has-form}
@@ -25,11 +26,11 @@ use Rattle.digits.specs.Inside.{Word, Number}
 use Rattle.text.specs.Inside.{Form, Parsable}
 use Rattle.text.proofs.TextBack.{form-of, length-ends-in}
 use Rattle.text.proofs.Places.{form-word}
-use Rattle.text.proofs.Accepted.{take-filled, not-odd, formed-map, checked-formed, Kept}
+use Rattle.text.proofs.Accepted.{take-filled, not-odd, formed-map, checked-formed}
 
 module _ (text : List ℕ) (form : Bool) (is-form : form ≡ has-form text) where
   pub read-1 : (ends : List ℕ) → not form ≡ true → (r : Answer) → r ≡ refused 1 → Read text ends r ends
-  read-1 ends t r e = inl (sym is-form ∙ not-true form t, (e, refl))
+  read-1 ends t r e = inl (sym is-form ∙ not-true form t, untouched e)
 
   module _ (formed : not form ≡ false) where
     has : has-form text ≡ true
@@ -47,21 +48,21 @@ module _ (text : List ℕ) (form : Bool) (is-form : form ≡ has-form text) wher
     module _ (n m : ℕ) (is-n : Number text 0 n) (is-m : Number text 4 m) (two : Bool) (is-two : two ≡ oversize n (2 * m)) (ends : List ℕ) where
       -- the checks, with the numbers that the first frame says
       to-read : (r : Answer) (ends′ : List ℕ)
-          → check (oversize n (2 * m) ≡ true) (Kept r ends ends′ 2)
-          (check (ltb (length ends) (2 * m) ≡ true) (Kept r ends ends′ 3)
-          (Formed n (ends-in text) (Kept r ends ends′) ((r ≡ done n m) × (ends′ ≡ filled (2 * m) (ends-in text) ends))))
+          → check (oversize n (2 * m) ≡ true) (Untouched ends r ends′ 2)
+          (check (ltb (length ends) (2 * m) ≡ true) (Untouched ends r ends′ 3)
+          (Formed n (ends-in text) (Untouched ends r ends′) ((r ≡ done n m) × (ends′ ≡ filled (2 * m) (ends-in text) ends))))
           → Read text ends r ends′
       to-read r ends′ x = inr (λ f. true-false has f, (rw (is-n .said, is-m .said) at x))
 
       pub read-2 : two ≡ true → (r : Answer) → r ≡ refused 2 → Read text ends r ends
-      read-2 t r e = to-read r ends (inl (sym is-two ∙ t, (e, refl)))
+      read-2 t r e = to-read r ends (inl (sym is-two ∙ t, untouched e))
 
       module _ (not-two : two ≡ false) where
         in-limits : oversize n (2 * m) ≡ false
         in-limits = sym is-two ∙ not-two
 
         pub read-3 : length ends < 2 * m → (r : Answer) → r ≡ refused 3 → Read text ends r ends
-        read-3 h r e = to-read r ends (inr (λ t. true-false t in-limits, inl (lt-ltb _ _ h, (e, refl))))
+        read-3 h r e = to-read r ends (inr (λ t. true-false t in-limits, inl (lt-ltb _ _ h, untouched e)))
 
         few : 2 * m ≤ 4096
         few = sized n (2 * m) in-limits .2
@@ -98,21 +99,21 @@ module _ (text : List ℕ) (form : Bool) (is-form : form ≡ has-form text) wher
                 (rw long in-limits) (not-odd (length (ends-in text)) m long)
 
             module _ (roomy : 2 * m ≤ length ends) where
-              to-settled : (r : Answer) (ends′ : List ℕ) → Formed n (ends-in text) (Kept r ends ends′) ((r ≡ done n m) × (ends′ ≡ filled (2 * m) (ends-in text) ends))
+              to-settled : (r : Answer) (ends′ : List ℕ) → Formed n (ends-in text) (Untouched ends r ends′) ((r ≡ done n m) × (ends′ ≡ filled (2 * m) (ends-in text) ends))
                   → Read text ends r ends′
               to-settled r ends′ y = to-read r ends′ (inr (λ t. true-false t in-limits, inr (λ t. true-false t (le-ltb _ _ roomy), y)))
 
               pub read-refused : (q .number ≡ 0 → ⊥) → (r : Answer) → r ≡ refused (q .number) → Read text ends r ends
               read-refused d r e =
                   to-settled r ends
-                  (formed-map n (ends-in text) {R = λ k. q ≡ unsearched k} settled (Kept r ends ends) _
-                  (λ k some u. (e ∙ ap refused (ap (λ (y : Search). y .number) u), refl))
+                  (formed-map n (ends-in text) {R = λ k. q ≡ unsearched k} settled (Untouched ends r ends) _
+                  (λ k some u. untouched (e ∙ ap refused (ap (λ (y : Search). y .number) u)))
                   (λ g. absurd (d (ap (λ (y : Search). y .number) g))))
 
               pub read-through : q .number ≡ 0 → (r : Answer) (ends′ : List ℕ) → r ≡ done n m → ends′ ≡ filled (2 * m) taken ends → Read text ends r ends′
               read-through z r ends′ e f =
                   let whole : take (2 * m) (ends-in text) ≡ ends-in text = take-all (2 * m) (ends-in text) (omega (arith, long)) in
                   to-settled r ends′
-                  (formed-map n (ends-in text) {R = λ k. q ≡ unsearched k} settled (Kept r ends ends′) _
+                  (formed-map n (ends-in text) {R = λ k. q ≡ unsearched k} settled (Untouched ends r ends′) _
                   (λ k some u. absurd (let y : q .number ≡ k = ap (λ (v : Search). v .number) u in omega arith))
                   (λ g. (e, f ∙ (rw (prefix-is, whole)))))

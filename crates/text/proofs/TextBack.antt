@@ -9,7 +9,7 @@ use lib.ListN.{getD, length, drop}
 use borrow.Author.Tests.{eq-eqb, eqb-true}
 use Rattle.laws.proofs.Cases.{cases, bool}
 use Rattle.laws.proofs.Tests.{both-yes, both-of, all-of, all-yes}
-use Rattle.text.specs.Text.{frame, frames, text-of, room, numbers, vertices-in, lines-in, ends-in, right, has-form}
+use Rattle.text.specs.Text.{frame, frames, text-of, room, numbers, vertices-in, lines-in, ends-in, well-placed, has-form}
 use Rattle.text.specs.Inside.{Form}
 use Rattle.text.proofs.FramesBack.{frame-first, frame-second, frame-rest, frames-two, length-frames, length-numbers, numbers-frames, frames-right, frames-numbers}
 
@@ -19,11 +19,11 @@ pub form-of : (text : List ℕ) → has-form text ≡ true → Form text
 unfolding has-form
 form-of text t =
     let p = both-of t in
-    record { long = eqb-true (length text) (room (lines-in text)) (p .0); places = all-of (right text) (length text) (p .1) }
+    record { long = eqb-true (length text) (room (lines-in text)) (p .0); places = all-of (well-placed text) (length text) (p .1) }
 
 pub form-yes : (text : List ℕ) → Form text → has-form text ≡ true
 unfolding has-form
-form-yes text f = both-yes (eq-eqb (length text) (room (lines-in text)) (f .long)) (all-yes (right text) (length text) (f .places))
+form-yes text f = both-yes (eq-eqb (length text) (room (lines-in text)) (f .long)) (all-yes (well-placed text) (length text) (f .places))
 
 -- no text of another length has the form
 pub form-no-length : (text : List ℕ) → (length text ≡ room (lines-in text) → ⊥) → has-form text ≡ false

@@ -8,10 +8,10 @@ use native.Mathlib.Omega.{arith}
 use Rattle.laws.specs.Tests.{both, either, all, any, least}
 use Rattle.laws.proofs.Cases.{true-false}
 use Rattle.network.specs.Network.{Path, here, network, Connected}
-use Rattle.network.specs.Numbers.{refused, done, oversize, astray, mispaired}
+use Rattle.network.specs.Numbers.{done, Untouched, oversize, astray, mispaired}
 use Rattle.network.specs.declared.Answer.{Answer}
 use Rattle.digits.specs.Digits.{digit, is-digit, value, digits, number-on, word}
-use Rattle.text.specs.Text.{frame, frames, text-of, numbers, vertices-in, lines-in, ends-in, right, has-form}
+use Rattle.text.specs.Text.{frame, frames, text-of, numbers, vertices-in, lines-in, ends-in, well-placed, has-form}
 use Rattle.text.specs.Calls.{Read}
 use Rattle.text.proofs.Accepted.{Sound, read-formless, read-oversize, read-accepts}
 
@@ -20,7 +20,7 @@ unfoldable pub lone : List ℕ
 lone = 48 ∷ 48 ∷ 48 ∷ 49 ∷ 48 ∷ 48 ∷ 48 ∷ 48 ∷ 10 ∷ []
 
 pub lone-has-form : has-form lone ≡ true
-unfolding lone has-form right is-digit digit value number-on word all any either both least
+unfolding lone has-form well-placed is-digit digit value number-on word all any either both least
 lone-has-form = refl
 
 pub lone-read : (vertices-in lone ≡ 1) × (lines-in lone ≡ 0) × (ends-in lone ≡ [])
@@ -36,7 +36,7 @@ unfoldable pub capital : List ℕ
 capital = 48 ∷ 48 ∷ 48 ∷ 65 ∷ 48 ∷ 48 ∷ 48 ∷ 48 ∷ 10 ∷ []
 
 pub capital-has-not : has-form capital ≡ false
-unfolding capital has-form right is-digit digit value number-on word all any either both least
+unfolding capital has-form well-placed is-digit digit value number-on word all any either both least
 capital-has-not = refl
 
 -- 00010000: the line feed is missing.
@@ -44,7 +44,7 @@ unfoldable pub unended : List ℕ
 unended = 48 ∷ 48 ∷ 48 ∷ 49 ∷ 48 ∷ 48 ∷ 48 ∷ 48 ∷ []
 
 pub unended-has-not : has-form unended ≡ false
-unfolding unended has-form right is-digit digit value number-on word all any either both least
+unfolding unended has-form well-placed is-digit digit value number-on word all any either both least
 unended-has-not = refl
 
 -- 00000000 and a line feed: no vertex, in the right form.
@@ -52,26 +52,26 @@ unfoldable pub nothing : List ℕ
 nothing = 48 ∷ 48 ∷ 48 ∷ 48 ∷ 48 ∷ 48 ∷ 48 ∷ 48 ∷ 10 ∷ []
 
 pub nothing-has-form : has-form nothing ≡ true
-unfolding nothing has-form right is-digit digit value number-on word all any either both least
+unfolding nothing has-form well-placed is-digit digit value number-on word all any either both least
 nothing-has-form = refl
 
 -- No byte at all, a carriage return before the line feed, and a line too few.
 pub empty-has-not : has-form [] ≡ false
-unfolding has-form right is-digit digit value number-on word all any either both least
+unfolding has-form well-placed is-digit digit value number-on word all any either both least
 empty-has-not = refl
 
 unfoldable pub returned : List ℕ
 returned = 48 ∷ 48 ∷ 48 ∷ 49 ∷ 48 ∷ 48 ∷ 48 ∷ 48 ∷ 13 ∷ 10 ∷ []
 
 pub returned-has-not : has-form returned ≡ false
-unfolding returned has-form right is-digit digit value number-on word all any either both least
+unfolding returned has-form well-placed is-digit digit value number-on word all any either both least
 returned-has-not = refl
 
 unfoldable pub cut : List ℕ
 cut = 48 ∷ 48 ∷ 48 ∷ 50 ∷ 48 ∷ 48 ∷ 48 ∷ 49 ∷ 10 ∷ []
 
 pub cut-has-not : has-form cut ≡ false
-unfolding cut has-form right is-digit digit value number-on word all any either both least
+unfolding cut has-form well-placed is-digit digit value number-on word all any either both least
 cut-has-not = refl
 
 -- Four vertices, each joined to each.
@@ -90,7 +90,7 @@ k4-text =
     []
 
 pub k4-has-form : has-form k4-text ≡ true
-unfolding k4-text has-form right is-digit digit value number-on word all any either both least
+unfolding k4-text has-form well-placed is-digit digit value number-on word all any either both least
 k4-has-form = refl
 
 pub k4-read : (vertices-in k4-text ≡ 4) × (lines-in k4-text ≡ 6) × (ends-in k4-text ≡ k4-ends)
@@ -120,12 +120,12 @@ module _ (ends : List ℕ) (r : Answer) (ends′ : List ℕ) where
   unfolding lone digit value number-on word numbers least oversize either
   lone-is-read = read-accepts lone ends r ends′ (record { form = lone-has-form; sized = refl; roomy = omega arith; sound = lone-sound })
 
-  pub capital-is-refused : Read capital ends r ends′ → (r ≡ refused 1) × (ends′ ≡ ends)
+  pub capital-is-refused : Read capital ends r ends′ → Untouched ends r ends′ 1
   capital-is-refused = read-formless capital ends r ends′ capital-has-not
 
-  pub unended-is-refused : Read unended ends r ends′ → (r ≡ refused 1) × (ends′ ≡ ends)
+  pub unended-is-refused : Read unended ends r ends′ → Untouched ends r ends′ 1
   unended-is-refused = read-formless unended ends r ends′ unended-has-not
 
-  pub nothing-is-refused : Read nothing ends r ends′ → (r ≡ refused 2) × (ends′ ≡ ends)
+  pub nothing-is-refused : Read nothing ends r ends′ → Untouched ends r ends′ 2
   unfolding nothing digit value number-on word least oversize either
   nothing-is-refused = read-oversize nothing ends r ends′ nothing-has-form refl

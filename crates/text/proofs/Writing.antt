@@ -1,7 +1,7 @@
 -- What `write` returns, one lemma for each place where it does, and what it asks of the functions that it calls.
 use mathlib.Core.Bool.{Bool, true, false}
 use mathlib.Core.List.{List}
-use mathlib.Core.Path.{_≡_, refl, sym, _∙_, ap}
+use mathlib.Core.Path.{_≡_, sym, _∙_, ap}
 use Prim.Native.Nat.{ℕ, _+_, _*_, _/_, _≤_, _<_}
 use native.Mathlib.Omega.{arith}
 use lib.Dec.{ltb}
@@ -12,20 +12,20 @@ use borrow.Author.Tests.{lt-ltb, le-ltb}
 use Rattle.laws.specs.Tests.{either}
 use Rattle.laws.specs.Lists.{filled}
 use Rattle.laws.proofs.Tests.{either-first, either-second, either-no}
-use Rattle.network.specs.Numbers.{refused, done, oversize, odd}
+use Rattle.network.specs.Numbers.{refused, done, oversize, odd, Untouched}
 use Rattle.network.specs.declared.Answer.{Answer}
 use Rattle.network.proofs.Checks.{sized, even}
-use Rattle.network.proofs.Sifting.{refuse-2, refuse-3, refuse-rest}
+use Rattle.network.proofs.Sifting.{refuse-2, refuse-3, refuse-rest, untouched}
 use Rattle.search.specs.Orient.{Explored, unsearched}
 use Rattle.search.specs.declared.Search.{Search}
 use Rattle.text.specs.Text.{room, text-of}
 use Rattle.text.specs.Calls.{Write}
 use Rattle.text.specs.Inside.{Writable}
-use Rattle.text.proofs.Accepted.{Kept, Gave}
+use Rattle.text.proofs.Accepted.{Gave}
 
 module _ (n : ℕ) (ends : List ℕ) (two : Bool) (is-two : two ≡ oversize n (length ends)) where
   pub write-2 : (text : List ℕ) → two ≡ true → (r : Answer) → r ≡ refused 2 → Write n ends text r text
-  write-2 text t r e = refuse-2 n ends _ (Kept r text text) (Gave n ends text r text) (sym is-two ∙ t) (e, refl)
+  write-2 text t r e = refuse-2 n ends _ (Untouched text r text) (Gave n ends text r text) (sym is-two ∙ t) (untouched e)
 
   module _ (not-two : two ≡ false) (three : Bool) (is-three : three ≡ odd (length ends)) where
     in-limits : oversize n (length ends) ≡ false
@@ -36,7 +36,7 @@ module _ (n : ℕ) (ends : List ℕ) (two : Bool) (is-two : two ≡ oversize n (
 
     module _ (text : List ℕ) where
       write-3 : either (odd (length ends)) (ltb (length text) (room (length ends / 2))) ≡ true → (r : Answer) → r ≡ refused 3 → Write n ends text r text
-      write-3 t r e = refuse-3 n ends _ (Kept r text text) (Gave n ends text r text) in-limits t (e, refl)
+      write-3 t r e = refuse-3 n ends _ (Untouched text r text) (Gave n ends text r text) in-limits t (untouched e)
 
       pub write-odd : three ≡ true → (r : Answer) → r ≡ refused 3 → Write n ends text r text
       write-odd t = write-3 (either-first _ _ (sym is-three ∙ t))
@@ -60,13 +60,13 @@ module _ (n : ℕ) (ends : List ℕ) (two : Bool) (is-two : two ≡ oversize n (
         module _ (q : Search) (x : Explored n ends q) where
           pub write-refused : (q .number ≡ 0 → ⊥) → (r : Answer) → r ≡ refused (q .number) → Write n ends text r text
           write-refused d r e =
-              refuse-rest n ends _ (Kept r text text) (Gave n ends text r text) enough {R′ = λ k. q ≡ unsearched k} x
-              (λ k some u. (e ∙ ap refused (ap (λ (y : Search). y .number) u), refl))
+              refuse-rest n ends _ (Untouched text r text) (Gave n ends text r text) enough {R′ = λ k. q ≡ unsearched k} x
+              (λ k some u. untouched (e ∙ ap refused (ap (λ (y : Search). y .number) u)))
               (λ g. absurd (d (ap (λ (y : Search). y .number) g)))
 
           pub write-through : q .number ≡ 0 → (r : Answer) (text′ : List ℕ) → r ≡ done (9 * (length ends / 2 + 1)) 0
               → text′ ≡ filled (room (length ends / 2)) (text-of n ends) text → Write n ends text r text′
           write-through z r text′ e f =
-              refuse-rest n ends _ (Kept r text text′) (Gave n ends text r text′) enough {R′ = λ k. q ≡ unsearched k} x
+              refuse-rest n ends _ (Untouched text r text′) (Gave n ends text r text′) enough {R′ = λ k. q ≡ unsearched k} x
               (λ k some u. absurd (let y : q .number ≡ k = ap (λ (v : Search). v .number) u in omega arith))
               (λ g. (e, f))

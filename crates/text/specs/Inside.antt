@@ -5,11 +5,11 @@ use mathlib.Core.Path.{_≡_}
 use Prim.Native.Nat.{ℕ, _+_, _*_, _/_, _≤_, _<_}
 use lib.ListN.{length, take, drop}
 use Rattle.laws.specs.Tests.{all}
-use Rattle.text.specs.Text.{frames, room, lines-in, right}
+use Rattle.text.specs.Text.{frames, room, lines-in, well-placed}
 
 -- The bytes of frame k are right.
 unfoldable pub is-frame : List ℕ → ℕ → Bool
-is-frame text k = all (λ j. right text (9 * k + j)) 9
+is-frame text k = all (λ j. well-placed text (9 * k + j)) 9
 
 -- A text whose length and first frame are right, and that has so many lines.
 pub record Opened (text : List ℕ) (lines : ℕ) : Type 0 where
@@ -20,7 +20,7 @@ pub record Opened (text : List ℕ) (lines : ℕ) : Type 0 where
 -- The form, in its two halves.
 pub record Form (text : List ℕ) : Type 0 where
   pub long : length text ≡ room (lines-in text)
-  pub places : (i : ℕ) → i < length text → right text i ≡ true
+  pub places : (i : ℕ) → i < length text → well-placed text i ≡ true
 
 -- A text that has the form, its lines, and room for their ends.
 pub record Parsable (text : List ℕ) (lines : ℕ) (ends : List ℕ) : Type 0 where

@@ -45,9 +45,9 @@ abbrev pub ends-in : List ℕ → List ℕ
 ends-in text = numbers (lines-in text) (drop 9 text)
 
 -- Place i of a text holds what it should: each ninth place a line feed, every other a digit.
-unfoldable pub right : List ℕ → ℕ → Bool
-right text i = cond (eqb (i % 9) 8) (eqb (getD text i 0) feed) (is-digit (getD text i 0))
+unfoldable pub well-placed : List ℕ → ℕ → Bool
+well-placed text i = cond (eqb (i % 9) 8) (eqb (getD text i 0) feed) (is-digit (getD text i 0))
 
 -- The form: the length that the first frame's lines ask, and every place as it should be.
 unfoldable pub has-form : List ℕ → Bool
-has-form text = both (eqb (length text) (room (lines-in text))) (all (right text) (length text))
+has-form text = both (eqb (length text) (room (lines-in text))) (all (well-placed text) (length text))

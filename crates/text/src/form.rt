@@ -4,7 +4,7 @@ ghost use Prim.Native.Nat.{_+_, _*_, _≤_, _<_};
 ghost use lib.ListN.{length};
 ghost use Rattle.laws.specs.Tests.{all};
 ghost use Rattle.digits.specs.Inside.{Word, Number};
-ghost use Rattle.text.specs.Text.{right, «has-form»};
+ghost use Rattle.text.specs.Text.{«well-placed», «has-form»};
 ghost use Rattle.text.specs.Inside.{«is-frame», Opened};
 
 // Whether a text has the form. The first frame comes first, since it says how long the text should be.
@@ -27,7 +27,7 @@ pub(crate) fn has_form(text: &[u8]) -> bool
 // Whether every place after the first frame is as it should be.
 fn are_frames(text: &[u8], lines: usize) -> bool
     requires { ⌜ Opened (now text) lines ⌝ }
-    ensures { λ r. ⌜ r ≡ all (right (now (text .entry))) (length (now (text .entry))) ⌝ }
+    ensures { λ r. ⌜ r ≡ all (well-placed (now (text .entry))) (length (now (text .entry))) ⌝ }
 {
     let mut k = 1;
     while k <= lines {

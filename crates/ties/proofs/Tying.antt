@@ -9,7 +9,7 @@ use Rattle.tree.specs.Returns.{backb}
 use Rattle.fork.specs.Link.{Link}
 use Rattle.fork.proofs.Rule.{back-yes}
 use Rattle.fork.proofs.Links.{link-ends}
-use Rattle.groups.specs.Constraints.{Constraints, More, BackLine}
+use Rattle.groups.specs.Constraints.{Constraints, More, Sided}
 use Rattle.groups.specs.Groups.{Tables, Grouped}
 use Rattle.groups.specs.Calls.{joined}
 use Rattle.groups.specs.declared.Joining.the-variants.{Agrees, Conflicts, Joins}
@@ -18,7 +18,7 @@ use Rattle.groups.proofs.Answers.{after-agrees, after-joins}
 use Rattle.ties.specs.Inside.{Closed, Taken, Together, Onward, Unkept}
 
 module _ (S : Tree) where
-  pub link-back : {b d k : ℕ} → Link S b d k → BackLine (S .lines) (backb S) b × BackLine (S .lines) (backb S) d
+  pub link-back : {b d k : ℕ} → Link S b d k → Sided (S .lines) (backb S) b × Sided (S .lines) (backb S) d
   link-back {b} {d} {k} l =
       let q = link-ends S l in
       (record { within = q .0 .0 .below; is-back = back-yes S b (q .0) }, record { within = q .1 .0 .below; is-back = back-yes S d (q .1) })

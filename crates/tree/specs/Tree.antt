@@ -5,14 +5,8 @@ use Prim.Native.Nat.{ℕ, zero, suc, _+_, _*_, _-_}
 use lib.Dec.{eqb, ltb, leb}
 use lib.ListN.{getD}
 use Rattle.laws.specs.Tests.{both}
+use Rattle.network.specs.Marks.{tree}
 use Rattle.network.specs.Network.{first, second}
-
--- What a line is: a tree line or a back line. (2 is nothing here: it is kept for lines that are out of service.)
-abbrev pub tree : ℕ
-tree = 0
-
-abbrev pub back : ℕ
-back = 1
 
 -- Vertices and lines; which lines are in service, and which of those are tree lines; where each line starts and where it ends; the height of
 -- each vertex and the tree line that leads up to it; and whether v stands at or above u.
@@ -52,9 +46,9 @@ tree-of n m ends kind height parent =
       vertices = n;
       lines = m;
       live = λ k. ltb (getD kind k 0) 2;
-      tree = λ k. eqb (getD kind k 0) 0;
-      source = λ k. cond (eqb (getD kind k 0) 0) (lower ends height k) (higher ends height k);
-      target = λ k. cond (eqb (getD kind k 0) 0) (higher ends height k) (lower ends height k);
+      tree = λ k. eqb (getD kind k 0) tree;
+      source = λ k. cond (eqb (getD kind k 0) tree) (lower ends height k) (higher ends height k);
+      target = λ k. cond (eqb (getD kind k 0) tree) (higher ends height k) (lower ends height k);
       height = λ v. getD height v 0;
       parent = λ v. getD parent v 0;
       above = aboveb ends height parent;

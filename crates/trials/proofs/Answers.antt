@@ -11,28 +11,29 @@ use lib.ListN.{length, length-map}
 use borrow.Author.Tests.{le-ltb, ne-eqb}
 use Rattle.laws.specs.Tests.{both}
 use Rattle.laws.specs.Checks.{check}
-use Rattle.laws.specs.Lists.{upto, filled}
+use Rattle.laws.specs.Lists.{upto, filled, at, Agree}
 use Rattle.laws.specs.Sorting.{gather}
+use Rattle.laws.specs.Dictionary.{First, Next, Last}
 use Rattle.laws.proofs.Cases.{cases, eq-or}
 use Rattle.laws.proofs.Keeping.{all-true}
 use Rattle.laws.proofs.Lengths.{length-from}
 use Rattle.laws.proofs.Lists.{keep-same}
+use Rattle.laws.proofs.Dictionary.{first-once, next-list}
 use Rattle.network.specs.Network.{Network, network}
-use Rattle.network.specs.Numbers.{refused, done, Checked}
+use Rattle.network.specs.Numbers.{refused, done, Checked, Untouched, triple, pair}
 use Rattle.network.specs.declared.Answer.{Answer}
+use Rattle.network.specs.Marks.{tree, back}
 use Rattle.network.proofs.Sifting.{checked-once}
-use Rattle.tree.specs.Tree.{Tree, tree, back}
+use Rattle.tree.specs.Tree.{Tree}
 use Rattle.tree.specs.Returns.{backb}
 use Rattle.search.specs.Machine.{finished, tree-in}
-use Rattle.search.specs.Orient.{back-lines, cramped, Untouched as Unoriented, Oriented}
+use Rattle.search.specs.Orient.{back-lines, cramped, Oriented}
 use Rattle.fork.specs.Fork.{Aligned}
-use Rattle.groups.specs.Order.{at, Agree, First, Next, Last}
-use Rattle.groups.proofs.Order.{first-once, next-list}
 use Rattle.choice.specs.Choice.{Drawable, Proper, Outdone}
-use Rattle.choice.specs.Calls.{cramped-first, Untouched, Chosen, Ringed, cramped-next, Unmoved, Stepped, NextChoice}
+use Rattle.choice.specs.Calls.{cramped-first, Chosen, Ringed, cramped-next, Stepped, NextChoice}
 use Rattle.meshes.specs.Meshes.{size-list}
-use Rattle.drawing.specs.Draw.{clockwise-in, meshes-in, size-list-in, mesh-list-in, Balanced, cramped-draw, Undrawn, Drew, Draw}
-use Rattle.trials.specs.Trials.{Claim, back-lines-are, choices-are, next-is, none-after, not-aligned, must-agree, ring-is, mesh-count-is, sizes-are, meshes-are, clockwise-is, Trial, trial, refused-by, granted, ends-of, written, directions, Every, buffer, choice, Good, Onward, Choices, Draws, True, Holds}
+use Rattle.drawing.specs.Draw.{clockwise-in, meshes-in, size-list-in, mesh-list-in, Balanced, cramped-draw, Drew, Draw}
+use Rattle.trials.specs.Trials.{Claim, back-lines-are, choices-are, next-is, none-after, not-aligned, must-agree, ring-is, mesh-count-is, sizes-are, meshes-are, clockwise-is, Trial, trial, refused-by, granted, ends-of, written, directions, Every, buffer, choice, Good, ChoicesAfter, Choices, Draws, True, Holds}
 use Rattle.trials.specs.Answers.{OfFirst, OfDraw, FirstGives, NextGives, NextRefuses, NextLists, CallsList, Said, Refuses, Answered}
 use Rattle.trials.specs.Table.{table}
 use Rattle.trials.proofs.Table.{all-hold}
@@ -74,13 +75,13 @@ module _ (n : ℕ) (ends : List ℕ) where
 
   abbrev Nextly : List ℕ → Answer → List ℕ → Type 0
   Nextly choice r choice′ =
-      check (Proper (tree-in net) (at choice)) (check (Outdone (tree-in net) (at choice)) (Stepped net choice r choice′) (Unmoved choice r choice′ 9)) (Unmoved choice r choice′ 8)
+      check (Proper (tree-in net) (at choice)) (check (Outdone (tree-in net) (at choice)) (Stepped net choice r choice′) (Untouched choice r choice′ 9)) (Untouched choice r choice′ 8)
 
   abbrev Drawn : List ℕ → List ℕ → List ℕ → List ℕ → Answer → List ℕ → List ℕ → List ℕ → Type 0
   Drawn choice order mesh sizes r order′ mesh′ sizes′ =
       check (Proper (tree-in net) (at choice))
-      (check (Balanced net choice) (Drew net choice order mesh sizes r order′ mesh′ sizes′) (Undrawn order mesh sizes r order′ mesh′ sizes′ 10))
-      (Undrawn order mesh sizes r order′ mesh′ sizes′ 8)
+      (check (Balanced net choice) (Drew net choice order mesh sizes r order′ mesh′ sizes′) (Untouched (triple order mesh sizes) r (triple order′ mesh′ sizes′) 10))
+      (Untouched (triple order mesh sizes) r (triple order′ mesh′ sizes′) 8)
 
   -- A network that is refused
 
@@ -92,12 +93,12 @@ module _ (n : ℕ) (ends : List ℕ) where
     refuses =
         record {
           orient = λ kinds heights kinds′ heights′ r room x.
-              refused-so (cramped n ends kinds heights) (Unoriented kinds heights r kinds′ heights′) (Oriented net kinds heights r kinds′ heights′) room x .answers;
+              refused-so (cramped n ends kinds heights) (Untouched (pair kinds heights) r (pair kinds′ heights′)) (Oriented net kinds heights r kinds′ heights′) room x .answers;
           first = λ choice lines kinds choice′ lines′ kinds′ r room x.
-              refused-so (cramped-first ends choice lines kinds) (Untouched choice lines kinds r choice′ lines′ kinds′) (Firstly choice lines kinds r choice′ lines′ kinds′) room x .answers;
-          next = λ choice choice′ r room x. refused-so (cramped-next ends choice) (Unmoved choice r choice′) (Nextly choice r choice′) room x .answers;
+              refused-so (cramped-first ends choice lines kinds) (Untouched (triple choice lines kinds) r (triple choice′ lines′ kinds′)) (Firstly choice lines kinds r choice′ lines′ kinds′) room x .answers;
+          next = λ choice choice′ r room x. refused-so (cramped-next ends choice) (Untouched choice r choice′) (Nextly choice r choice′) room x .answers;
           draw = λ choice order mesh sizes order′ mesh′ sizes′ r room x.
-              refused-so (cramped-draw (length ends / 2) (length choice) (length order) (length mesh) (length sizes)) (Undrawn order mesh sizes r order′ mesh′ sizes′)
+              refused-so (cramped-draw (length ends / 2) (length choice) (length order) (length mesh) (length sizes)) (Untouched (triple order mesh sizes) r (triple order′ mesh′ sizes′))
               (Drawn choice order mesh sizes r order′ mesh′ sizes′) room x .answers;
         }
 
@@ -111,19 +112,19 @@ module _ (n : ℕ) (ends : List ℕ) where
         → ((choice lines kinds choice′ lines′ kinds′ : List ℕ) (r : Answer) → Firstly choice lines kinds r choice′ lines′ kinds′ → P r choice′) → OfFirst n ends P
     first-so P f choice lines kinds choice′ lines′ kinds′ r room x =
         f choice lines kinds choice′ lines′ kinds′ r
-        (granted-so (cramped-first ends choice lines kinds) (Untouched choice lines kinds r choice′ lines′ kinds′) (Firstly choice lines kinds r choice′ lines′ kinds′) room x)
+        (granted-so (cramped-first ends choice lines kinds) (Untouched (triple choice lines kinds) r (triple choice′ lines′ kinds′)) (Firstly choice lines kinds r choice′ lines′ kinds′) room x)
 
     -- (a buffer as long as there are lines is room enough)
     next-so : (c : String) (choice′ : List ℕ) (r : Answer) → NextChoice n ends (buffer net c) r choice′ → Nextly (buffer net c) r choice′
     unfolding cramped-next
     next-so c choice′ r x =
-        granted-so (cramped-next ends (buffer net c)) (Unmoved (buffer net c) r choice′) (Nextly (buffer net c) r choice′)
+        granted-so (cramped-next ends (buffer net c)) (Untouched (buffer net c) r choice′) (Nextly (buffer net c) r choice′)
         (le-ltb (length (buffer net c)) (length ends / 2) (omega (arith, written-long (tree-in net) c))) x
 
     drawn-so : (c order mesh sizes order′ mesh′ sizes′ : List ℕ) (r : Answer) → cramped-draw (length ends / 2) (length c) (length order) (length mesh) (length sizes) ≡ false
         → Draw n ends c order mesh sizes r order′ mesh′ sizes′ → Drawn c order mesh sizes r order′ mesh′ sizes′
     drawn-so c order mesh sizes order′ mesh′ sizes′ r room x =
-        granted-so (cramped-draw (length ends / 2) (length c) (length order) (length mesh) (length sizes)) (Undrawn order mesh sizes r order′ mesh′ sizes′)
+        granted-so (cramped-draw (length ends / 2) (length c) (length order) (length mesh) (length sizes)) (Untouched (triple order mesh sizes) r (triple order′ mesh′ sizes′))
         (Drawn c order mesh sizes r order′ mesh′ sizes′) room x
 
     -- first choice
@@ -161,7 +162,7 @@ module _ (n : ℕ) (ends : List ℕ) where
       where
         go : Nextly (buffer net c) r choice′ → (r ≡ refused 9) × (choice′ ≡ buffer net c)
         go (inl (_, inl ((d, q, b), _))) = absurd (l d q b)
-        go (inl (_, inr (_, u))) = (u .answers, u .same-choice)
+        go (inl (_, inr (_, u))) = (u .answers, u .same)
         go (inr (never, _)) = absurd (never p)
 
     eight-said : (c : String) → (Aligned (tree-in net) (choice net c) → ⊥) → NextRefuses n ends 8 c
@@ -169,9 +170,9 @@ module _ (n : ℕ) (ends : List ℕ) where
       where
         go : Nextly (buffer net c) r choice′ → (r ≡ refused 8) × (choice′ ≡ buffer net c)
         go (inl (p, _)) = absurd (a (p .aligned))
-        go (inr (_, u)) = (u .answers, u .same-choice)
+        go (inr (_, u)) = (u .answers, u .same)
 
-    onward-said : (c : String) (l : List String) → Good net (choice net c) → Onward net c l → NextLists n ends c l
+    onward-said : (c : String) (l : List String) → Good net (choice net c) → ChoicesAfter net c l → NextLists n ends c l
     onward-said c [] p q = nine-said c p q
     onward-said c (d ∷ l) p q = (next-said c d p (q .0), onward-said d l (q .0 .good) (q .1))
 
@@ -202,7 +203,7 @@ module _ (n : ℕ) (ends : List ℕ) where
 
     said-of : (claim : Claim) → True net claim → Said n ends claim
     said-of (back-lines-are l) q = λ kinds heights kinds′ heights′ r room x.
-        let y = granted-so (cramped n ends kinds heights) (Unoriented kinds heights r kinds′ heights′) (Oriented net kinds heights r kinds′ heights′) room x in (
+        let y = granted-so (cramped n ends kinds heights) (Untouched (pair kinds heights) r (pair kinds′ heights′)) (Oriented net kinds heights r kinds′ heights′) room x in (
           y .answers ∙ ap (λ (k : ℕ). done k 0) (q .1),
           finished net .kind,
           y .each-kind,

@@ -9,18 +9,18 @@ use native.Mathlib.Omega.{arith}
 use lib.Dec.{eqb, ltb}
 use borrow.Author.Tests.{eq-eqb, eqb-true, lt-ltb, ltb-true, not-true}
 use Rattle.laws.specs.Tests.{both, either, all, any}
-use Rattle.laws.specs.Lists.{from, upto}
+use Rattle.laws.specs.Lists.{from, upto, at, Agree}
+use Rattle.laws.specs.Dictionary.{Before, First, Next, Last}
 use Rattle.laws.proofs.Cases.{cases, bool, true-false, eq-or}
 use Rattle.laws.proofs.Tests.{both-yes, both-of, either-first, either-second, either-of, all-of, all-yes, any-of, any-yes}
 use Rattle.laws.proofs.Wherever.{implies-of}
+use Rattle.laws.proofs.Dictionary.{agree-sym, before-same}
 use Rattle.side.specs.Sides.{none}
 use Rattle.tree.specs.Tree.{Tree}
 use Rattle.tree.specs.Returns.{backb}
 use Rattle.fork.specs.Fork.{alignedb}
 use Rattle.fork.proofs.Rule.{back-of, aligned-yes, aligned-of}
 use Rattle.fork.proofs.Choices.{aligned-agree}
-use Rattle.groups.specs.Order.{at, Agree, Before, First, Next, Last}
-use Rattle.groups.proofs.Order.{agree-sym, before-same}
 use Rattle.choice.specs.Choice.{Proper}
 use Rattle.drawing.proofs.Walked.{at-map}
 use Rattle.listed.proofs.Granted.{properb, proper-yes, proper-agree, proper-of}

@@ -9,20 +9,20 @@ use lib.ListN.{length, take}
 use borrow.Author.Tests.{eqb-true, ltb-true, not-true}
 use Rattle.laws.specs.Tests.{both}
 use Rattle.laws.specs.Counting.{many}
-use Rattle.laws.specs.Lists.{keep, upto}
+use Rattle.laws.specs.Lists.{keep, upto, at}
 use Rattle.laws.proofs.Cases.{true-false}
 use Rattle.laws.proofs.Tests.{both-of}
 use Rattle.network.specs.Network.{Network}
-use Rattle.tree.specs.Tree.{Tree, tree-of, back}
+use Rattle.network.specs.Marks.{back}
+use Rattle.tree.specs.Tree.{Tree, tree-of}
 use Rattle.tree.specs.Returns.{backb}
 use Rattle.search.specs.Machine.{State, finished, tree-in}
 use Rattle.search.specs.Orient.{back-lines}
 use Rattle.fork.specs.Fork.{levelb, alignedb}
 use Rattle.fork.proofs.Rule.{level-of, aligned-level, aligned-yes}
-use Rattle.groups.specs.Order.{at}
 use Rattle.clockwise.specs.Order.{order-at}
 use Rattle.meshes.specs.Meshes.{mesh-count, mesh-list, size-list}
-use Rattle.trials.specs.Trials.{Claim, back-lines-are, choices-are, next-is, none-after, not-aligned, must-agree, ring-is, mesh-count-is, sizes-are, meshes-are, clockwise-is, written, directions, Every, choice, Fitting, Onward, Choices, Draws, True}
+use Rattle.trials.specs.Trials.{Claim, back-lines-are, choices-are, next-is, none-after, not-aligned, must-agree, ring-is, mesh-count-is, sizes-are, meshes-are, clockwise-is, written, directions, Every, choice, Fitting, ChoicesAfter, Choices, Draws, True}
 use Rattle.trials.proofs.Lists.{numbers, numbers-of, rows, rows-of}
 use Rattle.listed.proofs.Granted.{properb, proper-of}
 use Rattle.trials.proofs.Choosing.{everyb, firstb, first-of, nextb, next-of, lastb, last-of, none-of}
@@ -88,7 +88,7 @@ module _ (net : Network) where
   unfolding fittingb back-lines
   fitting-of c t = eqb-true (len c) _ t
 
-  onward-of : (c : String) (l : List String) → onwardb net (finished net) c l ≡ true → Onward net c l
+  onward-of : (c : String) (l : List String) → onwardb net (finished net) c l ≡ true → ChoicesAfter net c l
   unfolding onwardb
   onward-of c [] t = last-of (tree-in net) (choice net c) t
   onward-of c (d ∷ l) t = let q = both-of t in (next-of (tree-in net) (choice net c) (choice net d) (q .0), onward-of d l (q .1))

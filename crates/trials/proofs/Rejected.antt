@@ -5,14 +5,13 @@ use Prim.Native.Nat.{ℕ}
 use native.Mathlib.Omega.{arith}
 use Rattle.laws.specs.Tests.{both, either}
 use Rattle.laws.specs.Counting.{count}
-use Rattle.laws.specs.Lists.{from}
+use Rattle.laws.specs.Lists.{from, at}
 use Rattle.network.specs.Network.{touches, other}
 use Rattle.network.specs.Numbers.{done}
 use Rattle.network.specs.declared.Answer.{Answer}
 use Rattle.search.specs.Machine.{free, lowest-free, take-line, leave, go, step, run, start, finished}
-use Rattle.groups.specs.Order.{at}
 use Rattle.choice.specs.Calls.{NextChoice}
-use Rattle.trials.specs.Trials.{ends-of, side-of, sides, written}
+use Rattle.trials.specs.Trials.{ends-of, side-named, sides, written}
 use Rattle.trials.specs.Answers.{OfFirst, OfDraw, bytes}
 use Rattle.trials.specs.Table.{K4, K5-without-9, K33}
 use Rattle.trials.proofs.Answers.{answered}
@@ -34,7 +33,7 @@ not-never-seven choice lines kinds choice′ lines′ kinds′ r room x =
 
 -- all left: not to K5 without its last line, where line 6 is right
 line-six : at (bytes 5 (ends-of K5-without-9) "LLLLR") 6 ≡ 1
-unfolding written sides side-of count from both either finished start run step go take-line leave lowest-free free touches other
+unfolding written sides side-named count from both either finished start run step go take-line leave lowest-free free touches other
 line-six = refl
 
 pub not-all-left : OfFirst 5 (ends-of K5-without-9) (λ r choice′. at choice′ 6 ≡ 0 → ⊥)
@@ -45,7 +44,7 @@ not-all-left choice lines kinds choice′ lines′ kinds′ r room x =
 
 -- the lent choice unmoved: not LRL on K4, after which line 3 is right
 line-three : (at (bytes 4 (ends-of K4) "LRL") 3 ≡ 0) × (at (bytes 4 (ends-of K4) "RLR") 3 ≡ 1)
-unfolding written sides side-of count from both either finished start run step go take-line leave lowest-free free touches other
+unfolding written sides side-named count from both either finished start run step go take-line leave lowest-free free touches other
 line-three = (refl, refl)
 
 pub not-unmoved : (r : Answer) → NextChoice 4 (ends-of K4) (bytes 4 (ends-of K4) "LRL") r (bytes 4 (ends-of K4) "LRL") → ⊥

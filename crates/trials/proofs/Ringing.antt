@@ -8,11 +8,12 @@ use borrow.Author.Tests.{eqb-true, eq-eqb, ne-eqb, ltb-true}
 use Rattle.laws.specs.Tests.{both, either, all}
 use Rattle.laws.proofs.Cases.{cases}
 use Rattle.laws.proofs.Tests.{both-of, either-of, all-of}
+use Rattle.side.specs.Sides.{same, different}
 use Rattle.tree.specs.Tree.{Tree}
 use Rattle.fork.specs.Fork.{Constraint, same-side, other-side, sameb, differentb}
 use Rattle.fork.proofs.Rule.{same-of, different-of}
 use Rattle.fork.proofs.Choices.{legal-even}
-use Rattle.groups.specs.Constraints.{same, different, ringb, Ring}
+use Rattle.rings.specs.Ring.{ringb, Ring}
 use Rattle.rings.proofs.Rings.{ring-refutes}
 use Rattle.choice.specs.Choice.{Drawable}
 

@@ -14,12 +14,12 @@ use Rattle.search.specs.Machine.{free, lowest-free, take-line, leave, go, step,
 use Rattle.search.specs.Inside.{everyone}
 use Rattle.fork.specs.Ends.{lowestb, high, more, top, highestb}
 use Rattle.fork.specs.Fork.{forkb, groupb, sameb, differentb, levelb, wherever, legalb, alignedb}
-use Rattle.groups.specs.Constraints.{apartb, oddb, orderedb, ringb}
+use Rattle.rings.specs.Ring.{apartb, oddb, orderedb, ringb}
 use Rattle.fans.specs.Fan.{side-of as line-side, leaving, rank, nested, fan}
 use Rattle.clockwise.specs.Order.{discovered, incoming, beside, clockwise}
-use Rattle.meshes.specs.Meshes.{opposite, leave as leave-by, follow-in, turned, step as next-direction, mesh-of, mesh-count, borders, mesh-size, mesh-list, size-list}
+use Rattle.meshes.specs.Meshes.{other-way, leave-by, follow-in, turned, next-direction, mesh-of, mesh-count, borders, mesh-size, mesh-list, size-list}
 use Rattle.listed.proofs.Granted.{properb}
-use Rattle.trials.specs.Trials.{side-of, sides, written, directions, Every, Holds}
+use Rattle.trials.specs.Trials.{side-named, sides, written, directions, Every, Holds}
 use Rattle.trials.specs.Table.{table}
 use Rattle.trials.proofs.Lists.{alike}
 use Rattle.trials.proofs.Choosing.{agreeb, beforeb, scan, everyb, not-later, firstb, nextb, lastb}
@@ -28,7 +28,7 @@ use Rattle.trials.proofs.Claims.{each, fittingb, onwardb, choicesb, dra
 use Rattle.trials.proofs.Rows.{refusal, holdsb, all-hold-of}
 
 table-passes : each holdsb table ≡ true
-unfolding both either all any least count many from keep gather insert sort lowest-on touches other joins oversize odd astray looped doubled mispaired higher lower climb aboveb returnb returns low free lowest-free take-line leave go step run start finished everyone lowestb high more top highestb forkb groupb sameb differentb levelb wherever legalb alignedb apartb oddb orderedb ringb line-side leaving rank nested fan discovered incoming beside clockwise opposite leave-by follow-in turned next-direction mesh-of mesh-count borders mesh-size mesh-list size-list side-of sides written directions alike agreeb beforeb properb scan everyb not-later firstb nextb lastb constraintb roundb each fittingb onwardb choicesb drawsb test refusal holdsb
+unfolding both either all any least count many from keep gather insert sort lowest-on touches other joins oversize odd astray looped doubled mispaired higher lower climb aboveb returnb returns low free lowest-free take-line leave go step run start finished everyone lowestb high more top highestb forkb groupb sameb differentb levelb wherever legalb alignedb apartb oddb orderedb ringb line-side leaving rank nested fan discovered incoming beside clockwise other-way leave-by follow-in turned next-direction mesh-of mesh-count borders mesh-size mesh-list size-list side-named sides written directions alike agreeb beforeb properb scan everyb not-later firstb nextb lastb constraintb roundb each fittingb onwardb choicesb drawsb test refusal holdsb
 table-passes = refl
 
 pub all-hold : Every Holds table

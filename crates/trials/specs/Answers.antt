@@ -7,13 +7,12 @@ use Prim.Native.Nat.{ℕ, _*_, _/_}
 use Prim.Native.String.{String}
 use lib.Dec.{eqb}
 use lib.ListN.{length}
-use Rattle.laws.specs.Lists.{keep, upto, filled}
+use Rattle.laws.specs.Lists.{keep, upto, filled, at, Agree}
 use Rattle.network.specs.Network.{network}
 use Rattle.network.specs.Numbers.{refused, done}
 use Rattle.network.specs.declared.Answer.{Answer}
-use Rattle.tree.specs.Tree.{back}
+use Rattle.network.specs.Marks.{back}
 use Rattle.search.specs.Orient.{back-lines, cramped, Orient}
-use Rattle.groups.specs.Order.{at, Agree}
 use Rattle.choice.specs.Calls.{cramped-first, FirstChoice, cramped-next, NextChoice}
 use Rattle.drawing.specs.Draw.{cramped-draw, Draw}
 use Rattle.trials.specs.Trials.{Claim, back-lines-are, choices-are, next-is, none-after, not-aligned, must-agree, ring-is, mesh-count-is, sizes-are, meshes-are, clockwise-is, Trial, trial, refused-by, granted, ends-of, directions, Every, buffer}

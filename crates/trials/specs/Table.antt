@@ -1,7 +1,7 @@
 -- The table of trials: P1 to P12, two triangles on one line, and two that catch slips. (docs/RULES.md, "Worked examples".)
 use mathlib.Core.List.{List, [], _∷_}
 use Prim.Native.Nat.{ℕ}
-use Rattle.groups.specs.Constraints.{same, different}
+use Rattle.side.specs.Sides.{same, different}
 use Rattle.trials.specs.Trials.{Trial, trial, refused-by, granted, back-lines-are, choices-are, next-is, none-after, not-aligned, must-agree, ring-is, mesh-count-is, sizes-are, meshes-are, clockwise-is}
 
 -- Four vertices, all joined to each other.

@@ -9,7 +9,8 @@ use Prim.Native.String.{String, len, charAt}
 use lib.Dec.{eqb}
 use lib.ListN.{length, getD}
 use Rattle.laws.specs.Counting.{count}
-use Rattle.laws.specs.Lists.{keep, upto}
+use Rattle.laws.specs.Lists.{keep, upto, at}
+use Rattle.laws.specs.Dictionary.{First, Next, Last}
 use Rattle.side.specs.Sides.{left, right, none}
 use Rattle.network.specs.Network.{Network, network}
 use Rattle.network.specs.Numbers.{Checked}
@@ -18,8 +19,7 @@ use Rattle.tree.specs.Returns.{backb}
 use Rattle.search.specs.Machine.{tree-in}
 use Rattle.search.specs.Orient.{back-lines}
 use Rattle.fork.specs.Fork.{Aligned, Constraint}
-use Rattle.groups.specs.Order.{at, First, Next, Last}
-use Rattle.groups.specs.Constraints.{Ring}
+use Rattle.rings.specs.Ring.{Ring}
 use Rattle.choice.specs.Choice.{Drawable, Proper}
 use Rattle.drawing.specs.Draw.{clockwise-in, meshes-in, mesh-list-in, size-list-in, Balanced}
 
@@ -60,11 +60,11 @@ ends-of [] = []
 ends-of (line ∷ lines) = line .0 ∷ line .1 ∷ ends-of lines
 
 -- The sides that a word names.
-unfoldable pub side-of : Char → ℕ
-side-of letter = cond (eqb (code letter) (code "L")) left (cond (eqb (code letter) (code "R")) right none)
+unfoldable pub side-named : Char → ℕ
+side-named letter = cond (eqb (code letter) (code "L")) left (cond (eqb (code letter) (code "R")) right none)
 
 unfoldable pub sides : String → List ℕ
-sides word = map (λ k. side-of (charAt word k)) (upto (len word))
+sides word = map (λ k. side-named (charAt word k)) (upto (len word))
 
 -- A choice as a buffer holds it: at each back line the side whose turn it is, at each tree line none.
 unfoldable pub written : Tree → String → List ℕ
@@ -96,13 +96,13 @@ module _ (net : Network) where
   Fitting word = len word ≡ back-lines net
 
   -- The choices after c, to the last; and all choices.
-  abbrev pub Onward : String → List String → Type 0
-  Onward c [] = Last (net .lines) Good (choice c)
-  Onward c (d ∷ l) = Next (net .lines) Good (choice c) (choice d) × Onward d l
+  abbrev pub ChoicesAfter : String → List String → Type 0
+  ChoicesAfter c [] = Last (net .lines) Good (choice c)
+  ChoicesAfter c (d ∷ l) = Next (net .lines) Good (choice c) (choice d) × ChoicesAfter d l
 
   abbrev pub Choices : List String → Type 0
   Choices [] = (c : ℕ → ℕ) → Good c → ⊥
-  Choices (c ∷ l) = First (net .lines) Good (choice c) × Onward c l
+  Choices (c ∷ l) = First (net .lines) Good (choice c) × ChoicesAfter c l
 
   -- Draw does its work, and P is so.
   pub record Draws (c : String) (P : Type 0) : Type 0 where

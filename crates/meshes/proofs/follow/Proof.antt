@@ -2,7 +2,7 @@
 use lib.ListN.{take}
 use borrow.Author.Needs.{needs}
 use Rattle.laws.specs.Counting.{many}
-use Rattle.meshes.specs.Inside.{none}
+use Rattle.network.specs.Marks.{absent}
 use Rattle.meshes.proofs.Following.{Following, following-start, following-less, following-more, following-done}
 use Rattle.meshes.proofs.follow.Statement.{statement}
 use Rattle.meshes.proofs.follow.Tie as tie
@@ -11,7 +11,7 @@ abbrev Inv-loop : tie.InvT-loop
 Inv-loop directions d number nexts mesh₀ x₀ mesh x = Following directions d number nexts mesh x
 
 abbrev μ-loop : tie.MeasureT-loop
-μ-loop directions d number nexts mesh₀ x₀ mesh x = many none (take directions mesh)
+μ-loop directions d number nexts mesh₀ x₀ mesh x = many absent (take directions mesh)
 
 loop-holds : tie.Need-loop-holds Inv-loop μ-loop
 loop-holds c = search following-start

@@ -1,7 +1,7 @@
 -- `scan` looks along one step after the other.
 use Prim.Native.Nat.{_-_}
-use Rattle.groups.specs.Order.{at}
 use borrow.Author.Needs.{needs}
+use Rattle.laws.specs.Lists.{at}
 use Rattle.rings.proofs.Steps.{Scans, scans-start, looking, scans-more, scans-done}
 use Rattle.rings.proofs.scan.Statement.{statement}
 use Rattle.rings.proofs.scan.Tie as tie
