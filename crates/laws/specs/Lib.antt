@@ -6,3 +6,4 @@ pub mod Checks
 pub mod Running
 pub mod Orbits
 pub mod Sorting
+pub mod Chains

@@ -87,7 +87,6 @@ module _ (net : Network) (fit : Fit net) (live : ℕ → Bool) (order : ℕ → 
 
   -- a line in service is counted once along its direction, by one mesh, and once against it, by one mesh
   pub record Signed (k : ℕ) : Type 0 where
-    pub reverses : opposite (2 * k) ≡ 2 * k + 1
     pub along : count (λ j. eqb (mesh (2 * k)) j) meshes ≡ 1
     pub against : count (λ j. eqb (mesh (2 * k + 1)) j) meshes ≡ 1
 
@@ -96,7 +95,6 @@ module _ (net : Network) (fit : Fit net) (live : ℕ → Bool) (order : ℕ → 
       let forth : Way (2 * k) = record { below = omega arith; yes = (let e : 2 * k / 2 ≡ k = omega arith in ap live e ∙ t) } in
       let back : Way (2 * k + 1) = record { below = omega arith; yes = (let e : (2 * k + 1) / 2 ≡ k = omega arith in ap live e ∙ t) } in
       record {
-        reverses = opposite-even (2 * k) (omega arith) ∙ omega arith;
         along = count-one (mesh (2 * k)) meshes (mesh-below (2 * k) forth);
         against = count-one (mesh (2 * k + 1)) meshes (mesh-below (2 * k + 1) back);
       }
