@@ -8,6 +8,7 @@ use Prim.Native.Nat.{ℕ, _+_, _-_, _≤_, _<_}
 use native.Mathlib.Omega.{arith}
 use lib.ListN.{getD}
 use borrow.Author.Tests.{eq-eqb, eqb-true, lt-ltb}
+use Rattle.laws.specs.Chains.{Follows, Chainable, Chained}
 use Rattle.laws.proofs.Cases.{cases, eq-or, lt-or}
 use Rattle.tree.specs.Tree.{Tree, tree-of}
 use Rattle.tree.specs.Words.{Line, TreeLine}
@@ -22,7 +23,7 @@ use Rattle.ties.specs.Inside.{Closed, Together, Onward, Outcome, obeyed, unkept
 use Rattle.ties.specs.declared.Tie.{Tie}
 use Rattle.ties.specs.declared.Tie.the-variants.{Holds, Tears}
 use Rattle.ties.proofs.Tying.{onward-same, onward-then}
-use Rattle.grouping.specs.Inside.{ForksTied, Forking, Begun, Leavable, Follows, Chained}
+use Rattle.grouping.specs.Inside.{ForksTied, Forking, Begun}
 use Rattle.grouping.proofs.Lasting.{forks-onward, Tying}
 
 -- One tree line
@@ -54,7 +55,7 @@ module _ {n m : ℕ} {ends kinds heights parents : List ℕ} (known : Known n m 
   small-source k h =
       omega (arith, crossed .each-source .each k h, searched n m ends kinds heights parents (known .grown) .source-in k (line-of k h), known .few-vertices)
 
-  pub all-leavable : Leavable m sources
+  pub all-leavable : Chainable 512 2048 m sources
   all-leavable = record { few = known .few-lines; small = small-source }
 
   cross-start : {f : ℕ} {leader parity from to : List ℕ} → Forking T f leader parity from to → Crossing T f (tables leader parity from to) leader parity from to 0
@@ -139,7 +140,7 @@ module _ {n m : ℕ} {ends kinds heights parents : List ℕ} (known : Known n m 
       one-place a c e x =
           crossed .each-source .each c (x .second .below) ∙ sym (x .one-vertex) ∙ ap (λ (k : ℕ). T .source k) e ∙ sym (crossed .each-source .each f (l .0 .below))
 
-  module _ {firsts nexts : List ℕ} (chain : Chained m sources firsts nexts) where
+  module _ {firsts nexts : List ℕ} (chain : Chained 512 2048 m sources firsts nexts) where
     module _ {f : ℕ} {leader parity from to : List ℕ} (k : Forking T f leader parity from to) where
       pub meet-place : f < 2048
       meet-place = omega (arith, k .tree-line .0 .below, known .few-lines)
@@ -152,7 +153,7 @@ module _ {n m : ℕ} {ends kinds heights parents : List ℕ} (known : Known n m 
         meet-start g is-g =
             hop (cross-start k) (k .tree-line) g
             (subst (λ (x : ℕ). Follows m sources x 0 g) (is-v .0)
-            (subst (λ (x : ℕ). Follows m sources v 0 x) (sym (is-g .0)) (chain .firsts-are v meet-vertex)))
+            (subst (λ (x : ℕ). Follows m sources v 0 x) (sym (is-g .0)) (chain .heads-are v meet-vertex)))
 
     module _ {f : ℕ} {t : Tables} {leader parity from to : List ℕ} {g : ℕ} (w : Meeting T sources f t leader parity from to g) (l : TreeLine T f) (h : g < m) where
       pub meet-line : g < 2048

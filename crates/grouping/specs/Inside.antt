@@ -50,25 +50,6 @@ pub record Forking (S : Tree) (f : ℕ) (leader parity from to : List ℕ) : Typ
   pub groups : Together S (tables leader parity from to)
   pub tied : ForksTied S (tables leader parity from to) (λ a g. a < f)
 
--- The lines are few, and each leaves a vertex.
-pub record Leavable (m : ℕ) (sources : List ℕ) : Type 0 where
-  pub few : m ≤ 2048
-  pub small : (k : ℕ) → k < m → getD sources k 0 < 512
-
--- The first line from number i on that leaves v is k, or there is none and k is the number of lines.
-pub record Follows (m : ℕ) (sources : List ℕ) (v i k : ℕ) : Type 0 where
-  pub from : i ≤ k
-  pub upto : k ≤ m
-  pub at : k < m → getD sources k 0 ≡ v
-  pub between : (j : ℕ) → i ≤ j → j < k → getD sources j 0 ≡ v → ⊥
-
--- Each vertex's first leaving line, and each line's next one at the same vertex.
-pub record Chained (m : ℕ) (sources firsts nexts : List ℕ) : Type 0 where
-  pub firsts-long : length firsts ≡ 512
-  pub nexts-long : length nexts ≡ 2048
-  pub firsts-are : (v : ℕ) → v < 512 → Follows m sources v 0 (getD firsts v 0)
-  pub nexts-are : (k : ℕ) → k < m → Follows m sources (getD sources k 0) (k + 1) (getD nexts k 0)
-
 -- The groups, with nothing said of what is tied.
 pub record Begun (S : Tree) (leader parity from to : List ℕ) : Type 0 where
   pub room : Room (S .lines) leader parity from to

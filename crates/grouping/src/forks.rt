@@ -1,10 +1,11 @@
 // The links of two lines of a fork that overlap: for each tree line one walk along the lines that leave where it leaves.
 ghost use Prim.Native.Nat.{ℕ, _+_, _<_};
+ghost use Rattle.laws.specs.Chains.{Chained};
 ghost use Rattle.tree.specs.Tree.{«tree-of»};
 ghost use Rattle.fork.specs.Inside.{Known};
 ghost use Rattle.groups.specs.Groups.{tables};
 ghost use Rattle.ties.specs.Inside.{Outcome, Crossed};
-ghost use Rattle.grouping.specs.Inside.{Forking, ForksTied, Begun, Chained};
+ghost use Rattle.grouping.specs.Inside.{Forking, ForksTied, Begun};
 use crate::leaving::chained;
 use network::wide;
 use ties::Tie;
@@ -33,7 +34,7 @@ fn tie_fork(
     requires { ⌜ Known vertices lines (now ends) (now kinds) (now heights) (now parents) ⌝ }
     requires { ⌜ Crossed (tree-of vertices lines (now ends) (now kinds) (now heights) (now parents)) (now sources) (now lows) (now highs) (now tops) ⌝ }
     requires { ⌜ Forking (tree-of vertices lines (now ends) (now kinds) (now heights) (now parents)) f (now leader) (now parity) (now from) (now to) ⌝ }
-    requires { ⌜ Chained lines (now sources) (now firsts) (now nexts) ⌝ }
+    requires { ⌜ Chained 512 2048 lines (now sources) (now firsts) (now nexts) ⌝ }
     ensures { λ r. ⌜ Outcome (tree-of vertices lines (now (ends .entry)) (now (kinds .entry)) (now (heights .entry)) (now (parents .entry)))
         (tables (now (leader .entry)) (now (parity .entry)) (now (from .entry)) (now (to .entry)))
         (tables (now (leader .exit)) (now (parity .exit)) (now (from .exit)) (now (to .exit)))

@@ -1,18 +1,18 @@
 -- What the functions' answers mean: the tables for one constraint more, or that no choice keeps it; the first choice; the next one, or none.
 use mathlib.Core.Bool.{Bool, true, false}
 use mathlib.Core.List.{List}
-use mathlib.Core.Path.{_≡_, sym, _∙_, subst}
+use mathlib.Core.Path.{_≡_, sym, _∙_}
 use Prim.Native.Nat.{ℕ, _≤_, _<_}
 use native.Mathlib.Omega.{arith}
 use lib.ListN.{length}
 use Rattle.laws.specs.Lists.{at, Agree}
 use Rattle.laws.specs.Dictionary.{First, Next, Last}
 use Rattle.laws.proofs.Dictionary.{first-agree}
-use Rattle.groups.specs.Constraints.{Constraints, Between, More, Keeps, Sided, Satisfies}
+use Rattle.groups.specs.Constraints.{Constraints, More, Sided, Satisfies}
 use Rattle.groups.specs.Groups.{Tables, tables, Grouped}
-use Rattle.groups.specs.Calls.{Room, Unjoined, Joinable, joined, Reading, Copied, Advanced, Stuck}
-use Rattle.groups.specs.declared.Joining.the-variants.{Agrees, Conflicts, Joins}
-use Rattle.groups.proofs.Groups.{None, grouped-none, grouped-agrees, grouped-joined, conflict}
+use Rattle.groups.specs.Calls.{Room, Unjoined, joined, Reading, Copied, Advanced, Stuck}
+use Rattle.groups.specs.declared.Joining.the-variants.{Agrees, Joins}
+use Rattle.groups.proofs.Groups.{None, grouped-none, grouped-agrees, grouped-joined}
 use Rattle.groups.proofs.Choosing.{parity-first, parity-obeys, turned-next, no-pivot-last}
 
 -- The start
@@ -31,10 +31,6 @@ grouped-start lines back kinds leader parity from to yes′ no′ s =
 -- Taking in a constraint
 
 module _ (lines : ℕ) (back : ℕ → Bool) (P : Constraints) (b d kind : ℕ) (hb : Sided lines back b) (hd : Sided lines back d) where
-  pub joinable : (leader parity from to : List ℕ) → Grouped lines back P (tables leader parity from to) → Room lines leader parity from to
-      → Joinable lines b d kind leader parity from to
-  joinable leader parity from to g r =
-      record { room = r; first = hb .within; second = hd .within; leaders = λ x h. omega (arith, g .low x h) }
 
   module _ (t t′ : Tables) (g : Grouped lines back P t) where
     pub after-agrees : joined lines b d kind t t′ Agrees → Grouped lines back (More P b d kind) t′
@@ -42,9 +38,6 @@ module _ (lines : ℕ) (back : ℕ → Bool) (P : Constraints) (b d kind : ℕ) 
 
     pub after-joins : kind ≤ 1 → joined lines b d kind t t′ Joins → Grouped lines back (More P b d kind) t′
     after-joins small j = grouped-joined lines back P t g b d kind hb hd small (j .low) (j .high) (j .less) (j .who) t′ (j .merged)
-
-    pub after-conflicts : joined lines b d kind t t′ Conflicts → (s : ℕ → ℕ) → Keeps (More P b d kind) s → ⊥
-    after-conflicts j = conflict lines back P t g b d kind hb hd (j .0) (j .1)
 
 -- The choices
 

@@ -41,26 +41,6 @@ grouped-none lines back t s =
       way = λ b h. subst (λ (x : ℕ). Way (Joins lines (t .from) (t .to)) x b) (sym (s .alone b (h .within) .0)) stay;
     }
 
--- The constraints taken in may be said in another way.
-pub grouped-same : (lines : ℕ) (back : ℕ → Bool) (P Q : Constraints) (t : Tables)
-    → ((b d k : ℕ) → P b d k → Q b d k) → ((b d k : ℕ) → Q b d k → P b d k) → Grouped lines back P t → Grouped lines back Q t
-grouped-same lines back P Q t f f′ g =
-    record {
-      low = g .low;
-      home = g .home;
-      tree = g .tree;
-      kin = g .kin;
-      side = g .side;
-      base = g .base;
-      ends = λ b d k q. g .ends b d k (f′ b d k q);
-      closed = λ b d k q. g .closed b d k (f′ b d k q);
-      told = λ c q. g .told c (λ b d k p. q b d k (f b d k p));
-      inside = g .inside;
-      idle = g .idle;
-      taken = λ x h. cases (g .taken x h) inl (λ p. inr (f _ _ _ p));
-      way = g .way;
-    }
-
 module _ (lines : ℕ) (back : ℕ → Bool) (P : Constraints) (t : Tables) (g : Grouped lines back P t)
     (b d k : ℕ) (hb : Sided lines back b) (hd : Sided lines back d) where
   keeps-old : (s : ℕ → ℕ) → Keeps (More P b d k) s → Keeps P s

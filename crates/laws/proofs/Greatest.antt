@@ -24,7 +24,3 @@ module _ (g : ℕ → ℕ) (z : ℕ) where
       (λ h. cases (max-in l)
       (λ r. inl (r .0, omega (arith, many-cons (r .0) x l, r .1), omega (arith, r .2)))
       (λ r. inr (omega arith)))
-
-  pub max-least : (l : List ℕ) → z ≤ foldr max z (map g l)
-  max-least [] = omega arith
-  max-least (x ∷ l) = omega (arith, max-least l)

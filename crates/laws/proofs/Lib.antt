@@ -13,6 +13,7 @@ pub mod Orbits
 pub mod Numbering
 pub mod Places
 pub mod Sorting
+pub mod Chaining
 pub mod Gathering
 pub mod Agreeing
 pub mod Lengths

@@ -1,9 +1,9 @@
 -- Laws of lists: what passes a test, what holds of all members, of all pairs of members, the least and the greatest.
-use mathlib.Core.Bool.{Bool, true, false, cond, not}
+use mathlib.Core.Bool.{Bool, true, false}
 use mathlib.Core.List.{List, [], _∷_, _++_, reverse, reverse-cons, map, foldr}
 use mathlib.Core.Logic.{_⊎_, inl, inr, _≢_}
 use mathlib.Core.Path.{_≡_, refl, sym, _∙_, ap, subst}
-use Prim.Native.Nat.{ℕ, zero, suc, _+_, _≤_, _<_, min, max}
+use Prim.Native.Nat.{ℕ, zero, suc, _+_, _≤_, _<_, min}
 use native.Mathlib.Omega.{arith}
 use Rattle.laws.specs.Counting.{many}
 use Rattle.laws.specs.Lists.{from, keep}
@@ -83,10 +83,6 @@ pub all-left : {A : Type 0} (P : A → Type 0) (l r : List A) → All P (l ++ r)
 all-left P [] r a = tt
 all-left P (x ∷ l) r a = (a .0, all-left P l r (a .1))
 
-pub all-right : {A : Type 0} (P : A → Type 0) (l r : List A) → All P (l ++ r) → All P r
-all-right P [] r a = a
-all-right P (x ∷ l) r a = all-right P l r (a .1)
-
 pub all-reverse : (P : ℕ → Type 0) (l : List ℕ) → All P l → All P (reverse l)
 all-reverse P [] a = tt
 all-reverse P (x ∷ l) a = rw (reverse-cons x l) (all-append P (reverse l) (x ∷ []) (all-reverse P l (a .1)) (a .0, tt))
@@ -94,10 +90,6 @@ all-reverse P (x ∷ l) a = rw (reverse-cons x l) (all-append P (reverse l) (x �
 pub keep-none : (p : ℕ → Bool) (l : List ℕ) → All (λ x. p x ≡ false) l → keep p l ≡ []
 keep-none p [] a = keep-nil p
 keep-none p (x ∷ l) a = rw (keep-no p x l (a .0)) (keep-none p l (a .1))
-
-pub keep-all : (p : ℕ → Bool) (l : List ℕ) → All (λ x. p x ≡ true) l → keep p l ≡ l
-keep-all p [] a = keep-nil p
-keep-all p (x ∷ l) a = rw (keep-yes p x l (a .0)) (ap (λ z. x ∷ z) (keep-all p l (a .1)))
 
 pub pairs-keep : (R : ℕ → ℕ → Type 0) (p : ℕ → Bool) (l : List ℕ) → Pairs R l → Pairs R (keep p l)
 pairs-keep R p [] a = rw (keep-nil p) tt
@@ -109,18 +101,6 @@ pairs-keep R p (x ∷ l) a =
 pub pairs-append : (R : ℕ → ℕ → Type 0) (l r : List ℕ) → Pairs R l → Pairs R r → All (λ x. All (R x) r) l → Pairs R (l ++ r)
 pairs-append R [] r a b c = b
 pairs-append R (x ∷ l) r a b c = (all-append (R x) l r (a .0) (c .0), pairs-append R l r (a .1) b (c .1))
-
-pub pairs-left : (R : ℕ → ℕ → Type 0) (l r : List ℕ) → Pairs R (l ++ r) → Pairs R l
-pairs-left R [] r a = tt
-pairs-left R (x ∷ l) r a = (all-left (R x) l r (a .0), pairs-left R l r (a .1))
-
-pub pairs-right : (R : ℕ → ℕ → Type 0) (l r : List ℕ) → Pairs R (l ++ r) → Pairs R r
-pairs-right R [] r a = a
-pairs-right R (x ∷ l) r a = pairs-right R l r (a .1)
-
-pub pairs-cross : (R : ℕ → ℕ → Type 0) (l r : List ℕ) → Pairs R (l ++ r) → All (λ x. All (R x) r) l
-pairs-cross R [] r a = tt
-pairs-cross R (x ∷ l) r a = (all-right (R x) l r (a .0), pairs-cross R l r (a .1))
 
 pub keep-same : (p q : ℕ → Bool) (l : List ℕ) → All (λ x. p x ≡ q x) l → keep p l ≡ keep q l
 keep-same p q [] a = keep-nil p ∙ sym (keep-nil q)

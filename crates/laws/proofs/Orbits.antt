@@ -219,21 +219,6 @@ module _ (n : ℕ) (on : ℕ → Bool) (f : ℕ → ℕ) (T : Turn n on f) where
           absurd (fresh i k (omega arith) (omega arith)
           (T .apart _ _ (walk-stays i d h) (walk-stays k d h) (sym (walk-end f i d) ∙ e ∙ walk-end f k d)))
 
-  -- so far nothing was met twice: at most n steps
-  pub fresh-few : (d k : ℕ) → In n on d → ((i j : ℕ) → i < j → j < k → walk f i d ≡ walk f j d → ⊥) → k ≤ n
-  fresh-few d k h fresh =
-      omega (
-        arith,
-        count-all k,
-        count-all n,
-        count-le (λ i y. walk f i d ≡ y) (λ i. true) (λ i. true) k n
-            (λ i g t. (walk f i d, walk-stays i d h .below, refl, refl))
-            (λ i j y g g′ e e′.
-            cases (lt-or i j)
-            (λ l. absurd (fresh i j l g′ (e ∙ sym e′)))
-            (λ l. cases (lt-or j i) (λ l′. absurd (fresh j i l′ g (e′ ∙ sym e))) (λ l′. omega arith))),
-      )
-
   reach-back : (j x : ℕ) → In n on x → (i : ℕ) × (walk f i (walk f j x) ≡ x)
   unfolding walk
   reach-back zero x h = (0, refl)
@@ -266,13 +251,6 @@ module _ (n : ℕ) (on : ℕ → Bool) (f : ℕ → ℕ) (T : Turn n on f) where
       let r = reach d x h g l in
       let s = reduce d k (r .0) e in
       (s .0, s .1, s .2 ∙ r .1)
-
-  -- Numbering: the walk of a d that is the lowest of its walk gets the number of the lowest ones before it, and the numbers are below the count.
-  pub number-lead : (d : ℕ) → lowest-on f n d ≡ d → walk-number on f n d ≡ count (leads on f n) d
-  number-lead d e = ap (count (leads on f n)) e
-
-  pub number-same : (x y : ℕ) → lowest-on f n x ≡ lowest-on f n y → walk-number on f n x ≡ walk-number on f n y
-  number-same x y e = ap (count (leads on f n)) e
 
   pub number-below : (x : ℕ) → In n on x → walk-number on f n x < walks on f n
   number-below x h = count-below (leads on f n) (lowest-on f n x) n (lowest-stays x h .below) (leads-lowest x h)

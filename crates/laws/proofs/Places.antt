@@ -28,10 +28,6 @@ many-map f i x (y ∷ l) =
     (λ e. omega (arith, many-here x y l e, many-here (f x) (f y) (map f l) (ap f e), many-map f i x l))
     (λ d. omega (arith, many-other x y l d, many-other (f x) (f y) (map f l) (λ e. d (i y x e)), many-map f i x l))
 
-pub many-map-none : (f : ℕ → ℕ) (x : ℕ) (l : List ℕ) → ((y : ℕ) → f y ≡ x → ⊥) → many x (map f l) ≡ 0
-many-map-none f x [] n = many-nil x
-many-map-none f x (y ∷ l) n = omega (arith, many-other x (f y) (map f l) (n y), many-map-none f x l n)
-
 -- places
 pub place-in : (x : ℕ) (l : List ℕ) → 0 < many x l → place x l < length l
 unfolding place

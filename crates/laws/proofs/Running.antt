@@ -4,19 +4,18 @@ use mathlib.Core.Bool.{Bool, true, false}
 use mathlib.Core.List.{map, foldr}
 use mathlib.Core.Logic.{_⊎_, inl, inr, _≢_}
 use mathlib.Core.Path.{_≡_, refl, _∙_, ap, subst}
-use Prim.Native.Nat.{ℕ, zero, suc, _+_, _≤_, _<_, min, max}
+use Prim.Native.Nat.{ℕ, zero, suc, _+_, _≤_, _<_, min}
 use native.Mathlib.Omega.{arith}
 use lib.Dec.{leb}
 use borrow.Author.Tests.{le-leb, lt-leb}
 use Rattle.laws.specs.Tests.{either}
 use Rattle.laws.specs.Counting.{many}
 use Rattle.laws.specs.Lists.{from, keep}
-use Rattle.laws.specs.Running.{minimum, maximum, best}
+use Rattle.laws.specs.Running.{minimum, best}
 use Rattle.laws.proofs.Cases.{cases, bool, true-false, eq-or, lt-or}
 use Rattle.laws.proofs.Tests.{both-yes, both-no-first, both-no-second, either-first, either-second, either-no}
 use Rattle.laws.proofs.Lists.{all-keep, all-kept, all-both, all-many, from-in, from-all, min-le, min-in, min-most}
 use Rattle.laws.proofs.Occurring.{many-keep-yes}
-use Rattle.laws.proofs.Greatest.{max-le, max-in, max-least}
 
 -- The numbers below n that pass
 
@@ -79,56 +78,6 @@ module _ (p : ℕ → Bool) (g : ℕ → ℕ) (z : ℕ) where
       cases (minimum-in n) (λ r. omega (arith, min-le g z (r .0) l (kept-in p n (r .0) (r .1) (r .2)), r .3)) (λ e. omega (arith, min-most g z l)) in
       let b : minimum p g z n ≤ foldr min z (map g l) =
       cases (min-in g z l) (λ r. let q = kept-of p n (r .0) (r .1) in omega (arith, minimum-le n (r .0) (q .0) (q .1), r .2)) (λ e. omega (arith, minimum-most n)) in
-      omega arith
-
-  -- The greatest
-
-  pub maximum-yes : (n : ℕ) → p n ≡ true → maximum p g z (suc n) ≡ max (g n) (maximum p g z n)
-  unfolding maximum
-  maximum-yes n t = rw t
-
-  pub maximum-no : (n : ℕ) → p n ≡ false → maximum p g z (suc n) ≡ maximum p g z n
-  unfolding maximum
-  maximum-no n f = rw f
-
-  maximum-nil : maximum p g z 0 ≡ z
-  unfolding maximum
-  maximum-nil = refl
-
-  pub maximum-le : (n x : ℕ) → x < n → p x ≡ true → g x ≤ maximum p g z n
-  maximum-le zero x h t = absurd (omega arith)
-  maximum-le (suc n) x h t =
-      cases (eq-or x n)
-      (λ e. let q : g x ≡ g n = ap g e in omega (arith, maximum-yes n (subst (λ y. p y ≡ true) e t)))
-      (λ d.
-      let d′ : x ≢ n = d in
-      let r = maximum-le n x (omega arith) t in
-      cases (bool (p n)) (λ y. omega (arith, maximum-yes n y)) (λ f. omega (arith, maximum-no n f)))
-
-  pub maximum-least : (n : ℕ) → z ≤ maximum p g z n
-  maximum-least zero = omega (arith, maximum-nil)
-  maximum-least (suc n) = cases (bool (p n)) (λ y. omega (arith, maximum-yes n y, maximum-least n)) (λ f. omega (arith, maximum-no n f, maximum-least n))
-
-  pub maximum-in : (n : ℕ) → ((x : ℕ) × (x < n) × (p x ≡ true) × (g x ≡ maximum p g z n)) ⊎ (maximum p g z n ≡ z)
-  maximum-in zero = inr maximum-nil
-  maximum-in (suc n) =
-      cases (bool (p n))
-      (λ t.
-      let s = maximum-yes n t in
-      cases (lt-or (maximum p g z n) (g n))
-      (λ h. inl (n, omega arith, t, omega arith))
-      (λ h. cases (maximum-in n) (λ r. inl (r .0, omega (arith, r .1), r .2, omega (arith, r .3))) (λ e. inr (omega arith))))
-      (λ f.
-      let s = maximum-no n f in
-      cases (maximum-in n) (λ r. inl (r .0, omega (arith, r .1), r .2, omega (arith, r .3))) (λ e. inr (omega arith)))
-
-  pub maximum-is : (n : ℕ) → foldr max z (map g (keep p (from 0 n))) ≡ maximum p g z n
-  maximum-is n =
-      let l = keep p (from 0 n) in
-      let a : maximum p g z n ≤ foldr max z (map g l) =
-      cases (maximum-in n) (λ r. omega (arith, max-le g z (r .0) l (kept-in p n (r .0) (r .1) (r .2)), r .3)) (λ e. omega (arith, max-least g z l)) in
-      let b : foldr max z (map g l) ≤ maximum p g z n =
-      cases (max-in g z l) (λ r. let q = kept-of p n (r .0) (r .1) in omega (arith, maximum-le n (r .0) (q .0) (q .1), r .2)) (λ e. omega (arith, maximum-least n)) in
       omega arith
 
 -- The best

@@ -7,3 +7,4 @@ pub mod Checks
 pub mod Running
 pub mod Orbits
 pub mod Sorting
+pub mod Chains

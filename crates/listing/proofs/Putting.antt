@@ -1,7 +1,7 @@
 -- Pieces put one after the other are one piece put: what each function of pieces.rt leaves, by the law of two pieces (`join`).
 use mathlib.Core.Bool.{false}
 use mathlib.Core.List.{List, [], _∷_, _++_}
-use mathlib.Core.Path.{_≡_, refl, sym, _∙_, ap, subst}
+use mathlib.Core.Path.{_≡_, refl, sym, _∙_, ap}
 use Prim.Native.Nat.{ℕ, zero, suc, _+_, _*_, _≤_, _<_}
 use native.Mathlib.Omega.{arith}
 use borrow.Author.Tests.{eq-eqb, ne-eqb}
@@ -200,9 +200,6 @@ module _ (size : ℕ) (line kind : List ℕ) where
 
         pub line-in : i < size → i < length line
         line-in h = omega (arith, r .lines)
-
-        pub kind-in : i < size → i < length kind
-        kind-in h = omega (arith, r .kinds)
 
         pub step-fits : i < size → to + 7 ≤ length out
         step-fits h = omega (arith, ring-long, r .few, r .roomy, w .place, f .after, length-size size)

@@ -1,13 +1,13 @@
 -- The page of a network that read accepts: what first choice and draw say of it leaves one kind of page each.
 use mathlib.Core.Bool.{false}
-use mathlib.Core.List.{List, [], _∷_, _++_}
+use mathlib.Core.List.{List, _++_}
 use mathlib.Core.Logic.{inl, inr}
-use mathlib.Core.Path.{_≡_, refl, sym, _∙_, ap, subst}
+use mathlib.Core.Path.{_≡_, sym, _∙_, ap, subst}
 use Prim.Native.Nat.{ℕ, zero, _+_, _*_, _/_, _≤_, _<_}
 use native.Mathlib.Omega.{arith}
 use borrow.Author.Tests.{le-ltb}
 use lib.ListN.{length, take, drop, replicate, length-append, length-replicate}
-use lib.Seq.{sets, sets-eq, length-sets, take-at}
+use lib.Seq.{sets-eq, length-sets, take-at}
 use Rattle.laws.specs.Checks.{check}
 use Rattle.laws.specs.Lists.{at}
 use Rattle.laws.proofs.Cases.{cases}
@@ -24,7 +24,7 @@ use Rattle.listed.proofs.Granted.{fit, granted}
 use Rattle.listed.proofs.Outcomes.{first-says}
 use Rattle.drawing.specs.Draw.{Draw, cramped-draw, Balanced, Drew, meshes-in}
 use Rattle.cornetariel.proofs.Packing.{backs-few}
-use Rattle.listing.specs.Page.{answer-line, counts-line, ring-page, Sheet, ListPage, RingPage, Shows}
+use Rattle.listing.specs.Page.{answer-line, counts-line, ring-page, Sheet, Shows}
 use Rattle.listing.specs.Inside.{Put, Ringable, Showable, Listable, Sheetable, Paged, PutChoices}
 use Rattle.listing.proofs.Putting.{put-more, answer-long, counts-long, ring-page-long}
 
@@ -139,9 +139,6 @@ module _ (n : ℕ) (ends choice out : List ℕ) (w : Showable n ends choice out)
 
   said : Said
   said = first-says n ends (w .accepted) choice lines kinds (omega (arith, w .long)) (omega (arith, lines-few)) (omega (arith, lines-few)) r choice′ lines′ kinds′ f
-
-  pub choice-kept : length choice′ ≡ length choice
-  choice-kept = cases said (λ y. y .1 .rest .long) (λ y. ap length (y .1 .same-choice))
 
   pub ringable : (r .number ≡ 0 → ⊥) → Ringable (r .second) lines′ kinds′ out
   ringable z = go said

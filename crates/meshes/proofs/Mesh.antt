@@ -15,9 +15,8 @@ use Rattle.laws.proofs.Counting.{count-zero, count-yes, count-no}
 use Rattle.laws.proofs.Orbits.{In, Turn, count-below, lowest-step, leads-lowest, number-below, reach}
 use Rattle.network.specs.Network.{Network}
 use Rattle.network.specs.Inside.{Fit}
-use Rattle.meshes.specs.Meshes.{other-way, next-direction, either-way, mesh-of, mesh-count}
+use Rattle.meshes.specs.Meshes.{next-direction, either-way, mesh-of, mesh-count}
 use Rattle.meshes.specs.Inside.{Whole}
-use Rattle.meshes.proofs.Directions.{other-way-even}
 use Rattle.meshes.proofs.Turning.{turn}
 
 -- of the numbers below n, one is c
@@ -87,7 +86,6 @@ module _ (net : Network) (fit : Fit net) (live : ℕ → Bool) (order : ℕ → 
 
   -- a line in service is counted once along its direction, by one mesh, and once against it, by one mesh
   pub record Signed (k : ℕ) : Type 0 where
-    pub reverses : other-way (2 * k) ≡ 2 * k + 1
     pub along : count (λ j. eqb (mesh (2 * k)) j) meshes ≡ 1
     pub against : count (λ j. eqb (mesh (2 * k + 1)) j) meshes ≡ 1
 
@@ -96,7 +94,6 @@ module _ (net : Network) (fit : Fit net) (live : ℕ → Bool) (order : ℕ → 
       let forth : Way (2 * k) = record { below = omega arith; yes = (let e : 2 * k / 2 ≡ k = omega arith in ap live e ∙ t) } in
       let back : Way (2 * k + 1) = record { below = omega arith; yes = (let e : (2 * k + 1) / 2 ≡ k = omega arith in ap live e ∙ t) } in
       record {
-        reverses = other-way-even (2 * k) (omega arith) ∙ omega arith;
         along = count-one (mesh (2 * k)) meshes (mesh-below (2 * k) forth);
         against = count-one (mesh (2 * k + 1)) meshes (mesh-below (2 * k + 1) back);
       }

@@ -3,19 +3,18 @@
 use mathlib.Core.Bool.{Bool, true, false}
 use mathlib.Core.List.{List}
 use mathlib.Core.Logic.{inl, inr}
-use mathlib.Core.Path.{_≡_, sym, _∙_, ap, subst}
+use mathlib.Core.Path.{_≡_, sym, _∙_, ap}
 use Prim.Native.Nat.{ℕ, suc, _+_, _-_, _%_, _≤_, _<_}
 use native.Mathlib.Omega.{arith}
-use lib.ListN.{length}
 use borrow.Author.Tests.{eq-eqb, ne-eqb}
 use Rattle.laws.specs.Lists.{at}
 use Rattle.laws.proofs.Cases.{cases, eq-or, lt-or}
 use Rattle.groups.specs.Constraints.{Constraints, Between, More, Sided}
-use Rattle.groups.specs.Groups.{Tables, tables, Grouped}
-use Rattle.groups.specs.Calls.{Room, joined}
+use Rattle.groups.specs.Groups.{Tables, Grouped}
+use Rattle.groups.specs.Calls.{joined}
 use Rattle.groups.specs.declared.Joining.the-variants.{Conflicts}
 use Rattle.groups.proofs.Ways.{way-append, way-turn}
-use Rattle.rings.specs.Rings.{Showing, Noted, Torn, SimpleWay, LowestPlace, wrap, kindOf, spotOf, linkOf, Upward, TracedLines, TracedKinds, Shown}
+use Rattle.rings.specs.Rings.{Noted, Torn, SimpleWay, LowestPlace, wrap, kindOf, spotOf, linkOf, Upward, TracedLines, TracedKinds, Shown}
 use Rattle.rings.specs.Ring.{Ring}
 use Rattle.rings.proofs.Rings.{ring-map, ring-agree}
 use Rattle.rings.proofs.Circles.{wrap-low, wrap-high, Hop, Circle, up-ring, down-ring}
@@ -140,28 +139,3 @@ module _ (lines : ℕ) (back : ℕ → Bool) (P : Constraints) (t t′ : Tables)
           (λ q. absurd (o (sym (j .is-from) ∙ q ∙ j .is-to)))
           (λ p. inl (rw (e, ← j .is-from, ← j .is-to) p))
       link u v z o (inr e) = inr e
-
--- The ring, after a conflict
-
-module _ (lines : ℕ) (back : ℕ → Bool) (P : Constraints) (b d kind : ℕ) (hb : Sided lines back b) (hd : Sided lines back d)
-    (leader parity from to leader′ parity′ from′ to′ : List ℕ) (g : Grouped lines back P (tables leader parity from to))
-    (j : joined lines b d kind (tables leader parity from to) (tables leader′ parity′ from′ to′) Conflicts) where
-  pub showing : (ring kinds : List ℕ) → kind ≤ 1 → (b ≡ d → ⊥) → Room lines leader′ parity′ from′ to′ → lines ≤ length ring → lines ≤ length kinds
-      → Showing lines b d kind parity′ from′ to′ ring kinds
-  showing ring kinds small apart r x y =
-      record {
-        conflict =
-            subst (λ (t : Tables). Torn lines (t .parity) (t .from) (t .to) b d kind) (sym (j .2))
-            (torn lines back P (tables leader parity from to) (tables leader′ parity′ from′ to′) g b d kind hb hd (r .few) small apart j);
-        parities = r .parities;
-        froms = r .froms;
-        tos = r .tos;
-        ring-room = x;
-        kind-room = y;
-      }
-
-  pub ring-after : (n : ℕ) (ring kinds ring′ kinds′ : List ℕ)
-      → Shown lines (at parity′) (at from′) (at to′) b d kind n ring kinds ring′ kinds′ → Ring (Between (More P b d kind)) n (at ring′) (at kinds′)
-  ring-after n ring kinds ring′ kinds′ s =
-      ring-shown lines back P (tables leader′ parity′ from′ to′) (tables leader′ parity′ from′ to′)
-      (subst (λ (t : Tables). Grouped lines back P t) (sym (j .2)) g) b d kind hb hd n ring kinds ring′ kinds′ s

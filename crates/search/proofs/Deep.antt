@@ -1,12 +1,12 @@
 -- What the search has seen: each found vertex stands on the path to the root or has no unused line left; each back line joins a vertex with one on
 -- its path; each tree line is the one that found its upper end; and the ends of a used line are found.
-use mathlib.Core.Bool.{Bool, true, false}
+use mathlib.Core.Bool.{true}
 use mathlib.Core.List.{List}
 use mathlib.Core.Logic.{_⊎_, inl, inr}
 use mathlib.Core.Path.{_≡_, refl, sym, ap, _∙_, subst}
-use Prim.Native.Nat.{ℕ, zero, suc, _+_, _*_, _≤_, _<_}
+use Prim.Native.Nat.{ℕ, zero, suc, _+_, _≤_, _<_}
 use native.Mathlib.Omega.{arith}
-use lib.ListN.{getD, set, length, replicate, getD-replicate, length-replicate, List·getD-eq-default}
+use lib.ListN.{getD, set, replicate, getD-replicate, length-replicate, List·getD-eq-default}
 use lib.Seq.{getD-set-same, getD-set-other}
 use borrow.Author.Tests.{eqb-false}
 use Rattle.laws.proofs.Cases.{cases, eq-or, lt-or, true-false}
@@ -14,9 +14,9 @@ use Rattle.network.specs.Network.{Network, touches, other}
 use Rattle.network.specs.Inside.{Fit}
 use Rattle.network.specs.Marks.{unused}
 use Rattle.network.proofs.Lines.{touches-other, touches-two, other-other, other-apart, other-in}
-use Rattle.search.specs.Machine.{State, state, finds, meets, retreats, halts, start, finished}
+use Rattle.search.specs.Machine.{State, finds, meets, retreats, halts, start, finished}
 use Rattle.search.proofs.Steps.{Stuck-at, Next, Found, Step, finding, meeting, retreating, halting, resting, Later, later-found, step-later, run-keeps, free-touches, free-unused, free-yes}
-use Rattle.search.proofs.Sound.{Sound, Rooted, line-down, below, not-root, step-sound, start-sound, start-found}
+use Rattle.search.proofs.Sound.{Sound, line-down, below, not-root, step-sound, start-sound, start-found}
 
 -- where j parent lines lead from v
 unfoldable pub home : List ℕ → List ℕ → ℕ → ℕ → ℕ
@@ -53,14 +53,6 @@ pub record Deep (net : Network) (s : State) : Type 0 where
   pub ends-found : (k v : ℕ) → k < net .lines → (getD (s .kind) k 0 ≡ unused → ⊥) → touches (net .ends) v k ≡ true → Found s v
 
 module _ (net : Network) (fit : Fit net) where
-  -- every found vertex's path leads to vertex 0
-  pub home-root : (s : State) → Sound net s → (j v : ℕ) → v < net .vertices → Found s v → getD (s .height) v 0 ≡ j → home (net .ends) (s .parent) v j ≡ 0
-  unfolding home
-  home-root s d zero v i f e = cases (eq-or v 0) (λ z. z) (λ z. absurd (omega (arith, d .rooted v i f z .higher)))
-  home-root s d (suc j) v i f e =
-      let r = d .rooted v i f (not-root net fit s d v (λ z. omega arith)) in
-      home-root s d j (below net s v) (other-in net fit v _ (r .is-line)) (r .found) (omega (arith, r .higher))
-
   -- Kept by later steps
 
   home-kept : (s t : State) → Sound net s → Later net s t → (j v : ℕ) → v < net .vertices → Found s v → j ≤ getD (s .height) v 0 → home (net .ends) (t .parent) v j ≡ home (net .ends) (s .parent) v j

@@ -1,24 +1,24 @@
 -- What the loop of `visit` keeps: steps of the machine lead from where the visit began to the same vertex again, and no line that the chain has
 -- passed is free there. A turn is a step that meets a found vertex, or one that finds a vertex, that vertex's whole visit, and the step back.
-use mathlib.Core.Bool.{Bool, true, false}
+use mathlib.Core.Bool.{true, false}
 use mathlib.Core.List.{List}
 use mathlib.Core.Logic.{_⊎_, inl, inr, _≢_}
 use mathlib.Core.Path.{_≡_, refl, sym, ap, _∙_, subst}
-use Prim.Native.Nat.{ℕ, zero, suc, _+_, _*_, _/_, _%_, _-_, _≤_, _<_}
+use Prim.Native.Nat.{ℕ, suc, _+_, _*_, _/_, _%_, _-_, _≤_, _<_}
 use native.Mathlib.Omega.{arith}
-use lib.ListN.{getD, set, length, take, length-set}
-use lib.Seq.{getD-set-same, getD-set-other}
+use lib.ListN.{getD, set, length, length-set}
+use lib.Seq.{getD-set-same}
 use borrow.Author.Tests.{eqb-false, eq-eqb, ne-eqb}
-use Rattle.laws.proofs.Cases.{cases, bool, eq-or, lt-or, true-false}
-use Rattle.laws.proofs.Tests.{First}
+use Rattle.laws.specs.Chains.{Follows, Chained}
+use Rattle.laws.proofs.Cases.{cases, bool, eq-or, lt-or}
 use Rattle.laws.proofs.Counting.{many-take-set}
 use Rattle.network.specs.Network.{Network, network-of, first, second, touches, other}
 use Rattle.network.specs.Inside.{Fit}
 use Rattle.network.specs.Marks.{unused}
 use Rattle.network.proofs.Lines.{touches-first, touches-second, touches-of, other-first, other-second, other-other, other-in}
 use Rattle.search.specs.Machine.{State, state, free, finds, run}
-use Rattle.search.specs.Inside.{Halved, NextHalf, HalvesChained, partner, unfound, untaken, Ready, Enterable, Entered, Visited}
-use Rattle.search.proofs.Steps.{Next, Found, Stuck-at, finding, meeting, retreating, Later, later-found, step-later, run-later, run-one, run-then, free-touches, free-unused, free-yes, used-not-free, free-set}
+use Rattle.search.specs.Inside.{Halved, partner, unfound, untaken, Ready, Enterable, Entered, Visited}
+use Rattle.search.proofs.Steps.{Next, finding, meeting, retreating, Later, later-found, run-later, run-one, run-then, free-touches, free-yes, used-not-free, free-set}
 
 -- Half-lines
 
@@ -71,7 +71,7 @@ pub record Going (net : Network) (s : State) (ks fs hs ps : List ℕ) (h : ℕ) 
 
 module _ (net : Network) (fit : Fit net) (s : State) (ready : Ready net s) where
   -- that the vertex may still be visited follows from the rest
-  going : (ks fs hs ps : List ℕ) (h j : ℕ) → run net j s ≡ state (s .at) ks fs hs ps → NextHalf (net .ends) (s .at) 0 h ⊎ ((h ≤ 2 * net .lines) × (h < 2 * net .lines → getD (net .ends) h 0 ≡ s .at))
+  going : (ks fs hs ps : List ℕ) (h j : ℕ) → run net j s ≡ state (s .at) ks fs hs ps → Follows (length (net .ends)) (net .ends) (s .at) 0 h ⊎ ((h ≤ 2 * net .lines) × (h < 2 * net .lines → getD (net .ends) h 0 ≡ s .at))
       → ((i : ℕ) → i < h → getD (net .ends) i 0 ≡ s .at → free (net .ends) ks (s .at) (i / 2) ≡ false)
       → unfound (net .vertices) fs ≤ unfound (net .vertices) (s .found) → untaken (net .lines) ks ≤ untaken (net .lines) (s .kind) → Going net s ks fs hs ps h
   going ks fs hs ps h j runs place past fewer less =
@@ -97,7 +97,7 @@ module _ (net : Network) (fit : Fit net) (s : State) (ready : Ready net s) where
         };
       }
 
-  going-start : (h : ℕ) → NextHalf (net .ends) (s .at) 0 h → Going net s (s .kind) (s .found) (s .height) (s .parent) h
+  going-start : (h : ℕ) → Follows (length (net .ends)) (net .ends) (s .at) 0 h → Going net s (s .kind) (s .found) (s .height) (s .parent) h
   unfolding run
   going-start h o = going (s .kind) (s .found) (s .height) (s .parent) h 0 refl (inl o) (λ i l a. absurd (o .between i (omega arith) l a)) (omega arith) (omega arith)
 
@@ -113,7 +113,7 @@ module _ (net : Network) (fit : Fit net) (s : State) (ready : Ready net s) where
         }
 
     -- One turn: on to the next half-line
-    module _ (lt : h < 2 * net .lines) (next : ℕ) (on : NextHalf (net .ends) (getD (net .ends) h 0) (h + 1) next) where
+    module _ (lt : h < 2 * net .lines) (next : ℕ) (on : Follows (length (net .ends)) (net .ends) (getD (net .ends) h 0) (h + 1) next) where
       abbrev k : ℕ
       k = h / 2
 
@@ -233,7 +233,7 @@ module _ (net : Network) (fit : Fit net) (s : State) (ready : Ready net s) where
 -- The same in the code's terms: h is where the loop stands on the chain, next the half-line after it.
 
 module _ {n m : ℕ} {ends : List ℕ} {v : ℕ} {ks₀ fs₀ hs₀ ps₀ : List ℕ} (ready : Ready (network-of n m ends) (state v ks₀ fs₀ hs₀ ps₀)) (fit : Fit (network-of n m ends))
-    {heads nexts : List ℕ} (chain : HalvesChained ends heads nexts) where
+    {heads nexts : List ℕ} (chain : Chained 512 4096 (length ends) ends heads nexts) where
   abbrev Loop : List ℕ → List ℕ → List ℕ → List ℕ → ℕ → Type 0
   Loop ks fs hs ps h = Going (network-of n m ends) (state v ks₀ fs₀ hs₀ ps₀) ks fs hs ps h
 
@@ -241,15 +241,15 @@ module _ {n m : ℕ} {ends : List ℕ} {v : ℕ} {ks₀ fs₀ hs₀ ps₀ : List
   visit-start h is =
       let few = fit .few-vertices in
       let in-n = ready .here in
-      going-start (network-of n m ends) fit (state v ks₀ fs₀ hs₀ ps₀) ready h (subst (λ (i : ℕ). NextHalf ends v 0 i) (sym (is .0)) (chain .heads v (omega arith)))
+      going-start (network-of n m ends) fit (state v ks₀ fs₀ hs₀ ps₀) ready h (subst (λ (i : ℕ). Follows (length ends) ends v 0 i) (sym (is .0)) (chain .heads-are v (omega arith)))
 
   module _ {ks fs hs ps : List ℕ} {h : ℕ} (g : Loop ks fs hs ps h) where
     pub visit-done : 2 * m ≤ h → Visited (network-of n m ends) (state v ks₀ fs₀ hs₀ ps₀) (state v ks fs hs ps)
     visit-done l = going-done (network-of n m ends) fit (state v ks₀ fs₀ hs₀ ps₀) ready ks fs hs ps h g l
 
     module _ (lt : h < 2 * m) {next : ℕ} (is-next : (next ≡ getD nexts h 0) × (next < 65536)) where
-      on : NextHalf ends (getD ends h 0) (h + 1) next
-      on = let long = fit .ends-long in subst (λ (i : ℕ). NextHalf ends (getD ends h 0) (h + 1) i) (sym (is-next .0)) (chain .nexts h (omega arith))
+      on : Follows (length ends) ends (getD ends h 0) (h + 1) next
+      on = let long = fit .ends-long in subst (λ (i : ℕ). Follows (length ends) ends (getD ends h 0) (h + 1) i) (sym (is-next .0)) (chain .nexts-are h (omega arith))
 
       pub visit-further : 2 * m - next < 2 * m - h
       visit-further = omega (arith, on .from)

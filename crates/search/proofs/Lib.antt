@@ -2,7 +2,6 @@ pub mod Steps
 pub mod Sound
 pub mod Halts
 pub mod Deep
-pub mod Linking
 pub mod Going
 pub mod Reached
 pub mod Grows

@@ -1,19 +1,17 @@
 -- From the recursive walk to the machine's end, and from the checks to the call: what `settle`, `explore` and `orient` return.
 use mathlib.Core.Bool.{Bool, true, false}
 use mathlib.Core.List.{List}
-use mathlib.Core.Logic.{_⊎_, inl, inr, _≢_}
+use mathlib.Core.Logic.{inl, inr}
 use mathlib.Core.Path.{_≡_, refl, sym, ap, _∙_, subst}
-use Prim.Native.Nat.{ℕ, zero, suc, _+_, _*_, _-_, _/_, _≤_, _<_}
+use Prim.Native.Nat.{ℕ, _+_, _-_}
 use native.Mathlib.Omega.{arith}
 use lib.ListN.{getD, set, length, replicate, length-replicate}
 use borrow.Author.Tests.{eqb-false}
-use Rattle.laws.proofs.Cases.{cases, true-false}
-use Rattle.network.specs.Network.{Network, network-of, Connected}
+use Rattle.laws.specs.Chains.{Chainable}
+use Rattle.network.specs.Network.{Network, network-of}
 use Rattle.network.specs.Inside.{Fit}
 use Rattle.search.specs.Machine.{State, state, halts, run, start, finished}
-use Rattle.search.specs.Orient.{searched}
-use Rattle.search.specs.Inside.{Halves, Ready, Visited, everyone, Ended}
-use Rattle.search.specs.declared.Search.{Search}
+use Rattle.search.specs.Inside.{Ready, Visited, everyone, Ended}
 use Rattle.search.proofs.Steps.{Later, halting, run-later, run-one, run-then}
 use Rattle.search.proofs.Sound.{start-unfound}
 use Rattle.search.proofs.Halts.{finished-is}
@@ -23,7 +21,7 @@ module _ (n m : ℕ) (ends : List ℕ) (fit : Fit (network-of n m ends)) where
   abbrev net : Network
   net = network-of n m ends
 
-  pub settle-halves : Halves ends
+  pub settle-halves : Chainable 512 4096 (length ends) ends
   settle-halves =
       let few = fit .few-lines in
       let long = fit .ends-long in

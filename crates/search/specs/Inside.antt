@@ -14,11 +14,6 @@ use Rattle.search.specs.Machine.{State, free, run, finished}
 use Rattle.search.specs.Orient.{searched}
 use Rattle.search.specs.declared.Search.{Search}
 
--- The list of ends is one that can be chained.
-pub record Halves (ends : List ℕ) : Type 0 where
-  pub few : length ends ≤ 4096
-  pub small : (i : ℕ) → i < length ends → getD ends i 0 < 512
-
 -- A half-line is a place in the list of ends; its partner is the other half of the line.
 unfoldable pub partner : ℕ → ℕ
 partner h = cond (eqb (h % 2) 0) (h + 1) (h - 1)
@@ -27,20 +22,6 @@ partner h = cond (eqb (h % 2) 0) (h + 1) (h - 1)
 pub record Halved (h : ℕ) (ends : List ℕ) : Type 0 where
   pub half : h < length ends
   pub other-half : partner h < length ends
-
--- The first half-line at v from place i on is h, or there is none and h is the end of the list.
-pub record NextHalf (ends : List ℕ) (v i h : ℕ) : Type 0 where
-  pub from : i ≤ h
-  pub upto : h ≤ length ends
-  pub at : h < length ends → getD ends h 0 ≡ v
-  pub between : (j : ℕ) → i ≤ j → j < h → getD ends j 0 ≡ v → ⊥
-
--- Each vertex's first half-line, and each half-line's next one at the same vertex.
-pub record HalvesChained (ends hs ns : List ℕ) : Type 0 where
-  pub heads-long : length hs ≡ 512
-  pub nexts-long : length ns ≡ 4096
-  pub heads : (v : ℕ) → v < 512 → NextHalf ends v 0 (getD hs v 0)
-  pub nexts : (h : ℕ) → h < length ends → NextHalf ends (getD ends h 0) (h + 1) (getD ns h 0)
 
 -- How many vertices are not found, and how many lines are not used.
 abbrev pub unfound : ℕ → List ℕ → ℕ

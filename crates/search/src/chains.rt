@@ -3,7 +3,7 @@
 ghost use mathlib.Core.Path.{_≡_};
 ghost use Prim.Native.Nat.{ℕ, _≤_, _<_};
 ghost use lib.ListN.{length, getD};
-ghost use Rattle.search.specs.Inside.{Halves, HalvesChained};
+ghost use Rattle.laws.specs.Chains.{Chainable, Chained};
 use network::wide;
 
 // Each vertex's first half-line, and each half-line's next one at the same vertex; the number of ends where there is none.
@@ -14,8 +14,8 @@ pub struct Chain {
 
 // Filled from the last half-line down, so that each goes before what its vertex had.
 pub(crate) fn chained(ends: &[u16]) -> Chain
-    requires { ⌜ Halves (now ends) ⌝ }
-    ensures { λ r. ⌜ HalvesChained (now (ends .entry)) (r .heads) (r .nexts) ⌝ }
+    requires { ⌜ Chainable 512 4096 (length (now ends)) (now ends) ⌝ }
+    ensures { λ r. ⌜ Chained 512 4096 (length (now (ends .entry))) (now (ends .entry)) (r .heads) (r .nexts) ⌝ }
 {
     let none = ends.len() as u16;
     let mut heads = [none; 512];

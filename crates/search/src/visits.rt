@@ -2,10 +2,11 @@
 ghost use mathlib.Core.Path.{_≡_};
 ghost use Prim.Native.Nat.{ℕ, _+_, _*_, _≤_, _<_};
 ghost use lib.ListN.{length, getD};
+ghost use Rattle.laws.specs.Chains.{Chained};
 ghost use Rattle.network.specs.Network.{«network-of»};
 ghost use Rattle.network.specs.Inside.{Fit};
 ghost use Rattle.search.specs.Machine.{state};
-ghost use Rattle.search.specs.Inside.{HalvesChained, partner, Halved, Enterable, Entered, Ready, Visited};
+ghost use Rattle.search.specs.Inside.{partner, Halved, Enterable, Entered, Ready, Visited};
 use network::Kind;
 use network::wide;
 
@@ -23,7 +24,7 @@ pub(crate) fn visit(
     parents: &mut [u16; 512],
 )
     requires { ⌜ Fit (network-of vertices lines (now ends)) ⌝ }
-    requires { ⌜ HalvesChained (now ends) (now heads) (now nexts) ⌝ }
+    requires { ⌜ Chained 512 4096 (length (now ends)) (now ends) (now heads) (now nexts) ⌝ }
     requires { ⌜ Ready (network-of vertices lines (now ends)) (state v (now kinds) (now found) (now heights) (now parents)) ⌝ }
     ensures { λ _. ⌜ Visited (network-of vertices lines (now (ends .entry)))
         (state v (now (kinds .entry)) (now (found .entry)) (now (heights .entry)) (now (parents .entry)))

@@ -1,8 +1,7 @@
 -- The returns of a line and its low: the tests as propositions, and what the tree makes of them. A return is told by heights alone; a line's
 -- returns go on below its parent line; each return of a tree line comes through one line that leaves its upper end.
-use mathlib.Core.Bool.{Bool, true, false, not}
-use mathlib.Core.List.{List}
-use mathlib.Core.Logic.{_⊎_, inl, inr, _≢_}
+use mathlib.Core.Bool.{true, false, not}
+use mathlib.Core.Logic.{_⊎_, inl, inr}
 use mathlib.Core.Path.{_≡_, refl, sym, _∙_, ap, subst}
 use Prim.Native.Nat.{ℕ, suc, _+_, _≤_, _<_}
 use native.Mathlib.Omega.{arith}
@@ -10,7 +9,7 @@ use lib.Dec.{eqb}
 use borrow.Author.Tests.{eq-eqb, eqb-true, lt-ltb, ltb-true, not-true}
 use Rattle.laws.specs.Counting.{many}
 use Rattle.laws.specs.Lists.{from, keep}
-use Rattle.laws.proofs.Cases.{cases, eq-or, lt-or, true-false}
+use Rattle.laws.proofs.Cases.{cases, eq-or, true-false}
 use Rattle.laws.proofs.Tests.{both-yes, both-of, either-first, either-second, either-of}
 use Rattle.laws.proofs.Lists.{All, all-keep, all-kept, all-map, all-both, all-many, from-in, from-all, min-le, min-in, min-most}
 use Rattle.laws.proofs.Occurring.{many-keep-yes}
@@ -78,9 +77,6 @@ module _ (S : Tree) where
   pub low-has : (f b : ℕ) → Return S f b → (c : ℕ) × Return S f c × (end S c ≡ low S f)
   low-has f b r = cases (low-cases f) (λ x. x) (λ n. absurd (n .1 b r))
 
-  pub low-below : (f b : ℕ) → Return S f b → low S f < S .height (S .source f)
-  low-below f b r = omega (arith, low-least f b r, r .below)
-
   pub low-some : (f : ℕ) → low S f < S .height (S .source f) → (c : ℕ) × Return S f c × (end S c ≡ low S f)
   low-some f h = cases (low-cases f) (λ x. x) (λ n. absurd (omega (arith, n .0)))
 
@@ -100,11 +96,6 @@ module _ (S : Tree) (X : Searched S) where
       cases (r .via)
       (λ e. subst (λ x. Above S (S .source x) (S .source b)) e (X .above-self (S .source b)))
       (λ q. above-source f b (l, q .0) (q .1))
-
-  -- what ends at a lower height ends strictly below the vertex, and stands on its path to the root
-  pub return-path : (f b : ℕ) → Line S f → Return S f b → Above S (S .target b) (S .source f)
-  return-path f b l r =
-      X .above-between (S .target b) (S .source f) (S .source b) (X .trail b (r .is-back)) (return-above f b l r) (omega (arith, r .below))
 
   -- a back line that leaves v is a return of itself
   pub return-self : (b : ℕ) → BackLine S b → Return S b b
@@ -130,12 +121,7 @@ module _ (S : Tree) (X : Searched S) where
       (X .above-level (S .target f) (S .target g) (S .source b) (p .1) (q .1)
       (X .rise f (lf, p .0) ∙ ap (λ x. suc (S .height x)) e ∙ sym (X .rise g (lg, q .0))))))
 
-  -- through the parent line of v: a return of a line that leaves v goes on to be one of the parent line, or ends at the parent
-  pub return-parent : (t f b : ℕ) → TreeLine S t → Leaves S (S .target t) f → Return S f b → end S b ≤ S .height (S .source t)
-  return-parent t f b lt lf r =
-      let e : S .height (S .source f) ≡ S .height (S .target t) = ap (S .height) (lf .from) in
-      omega (arith, r .below, X .rise t lt)
-
+  -- a return of a line that leaves the upper end of a tree line, and that ends lower than the tree line begins, is one of the tree line
   pub return-down : (t f b : ℕ) → TreeLine S t → Leaves S (S .target t) f → Return S f b → end S b < S .height (S .source t) → Return S t b
   return-down t f b lt lf r h =
       record {

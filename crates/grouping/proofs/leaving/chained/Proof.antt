@@ -1,11 +1,11 @@
 -- `chained` makes the chains: the lines passed so far are laid.
-use Rattle.grouping.proofs.Linking.{Linking, linking-start, linking-place, linking-vertex, linking-more, linking-done}
+use Rattle.laws.proofs.Chaining.{Linking, linking-start, linking-place, linking-vertex, linking-more, linking-done}
 use borrow.Author.Needs.{needs}
 use Rattle.grouping.proofs.leaving.chained.Statement.{statement}
 use Rattle.grouping.proofs.leaving.chained.Tie as tie
 
 abbrev Inv-loop : tie.InvT-loop
-Inv-loop lines sources none firsts₀ nexts₀ k₀ firsts nexts k = Linking lines sources firsts nexts k
+Inv-loop lines sources none firsts₀ nexts₀ k₀ firsts nexts k = Linking 512 2048 lines sources firsts nexts k
 
 abbrev μ-loop : tie.MeasureT-loop
 μ-loop lines sources none firsts₀ nexts₀ k₀ firsts nexts k = k

@@ -1,11 +1,12 @@
 -- `chained` makes the chains: the half-lines passed so far are laid.
-use Rattle.search.proofs.Linking.{Linking, linking-start, linking-place, linking-vertex, linking-more, linking-done}
+use lib.ListN.{length}
+use Rattle.laws.proofs.Chaining.{Linking, linking-start, linking-place, linking-vertex, linking-more, linking-done}
 use borrow.Author.Needs.{needs}
 use Rattle.search.proofs.chains.chained.Statement.{statement}
 use Rattle.search.proofs.chains.chained.Tie as tie
 
 abbrev Inv-loop : tie.InvT-loop
-Inv-loop ends none heads₀ nexts₀ h₀ heads nexts h = Linking ends heads nexts h
+Inv-loop ends none heads₀ nexts₀ h₀ heads nexts h = Linking 512 4096 (length ends) ends heads nexts h
 
 abbrev μ-loop : tie.MeasureT-loop
 μ-loop ends none heads₀ nexts₀ h₀ heads nexts h = h
