@@ -31,7 +31,6 @@ grouped-start lines back kinds leader parity from to yes′ no′ s =
 -- Taking in a constraint
 
 module _ (lines : ℕ) (back : ℕ → Bool) (P : Constraints) (b d kind : ℕ) (hb : Sided lines back b) (hd : Sided lines back d) where
-
   module _ (t t′ : Tables) (g : Grouped lines back P t) where
     pub after-agrees : joined lines b d kind t t′ Agrees → Grouped lines back (More P b d kind) t′
     after-agrees j = rw (j .2) (grouped-agrees lines back P t g b d kind hb hd (j .0) (j .1))

@@ -1,5 +1,5 @@
 -- The laws of choices and constraints, and what the functions' contracts mean (Answers). The rest serves the proofs of the functions.
-pub mod Listing
+pub mod Ranks
 pub mod Ways
 pub mod Groups
 pub mod Choosing

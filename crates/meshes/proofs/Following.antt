@@ -108,7 +108,6 @@ module _ (n : ℕ) (nexts : List ℕ) (N : Numberable n nexts) where
       }
 
   module _ (mesh : List ℕ) (c d : ℕ) (M : Marking n nexts mesh c d) (h : d < n) where
-
     pub marking-more : (after : List ℕ) → Followed n d c nexts after → Marking n nexts after (c + 1) (d + 1)
     marking-more after F = record { mesh-long = F .mesh-long; upto = omega arith; few = omega (arith, M .few); done = F .done }
 
