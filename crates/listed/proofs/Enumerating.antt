@@ -6,8 +6,8 @@ use mathlib.Core.Logic.{_⊎_, inl, inr, _≢_}
 use mathlib.Core.Path.{_≡_, refl, sym, _∙_}
 use Prim.Native.Nat.{ℕ, zero, suc, _+_, _*_, _/_, _%_, _≤_, _<_}
 use native.Mathlib.Omega.{arith}
-use lib.Dec.{eqb}
-use borrow.Author.Tests.{eq-eqb, ne-eqb, eqb-true}
+use lib.Dec.{eqb, ltb}
+use borrow.Author.Tests.{eq-eqb, ne-eqb, eqb-true, lt-ltb, le-ltb}
 use Rattle.laws.specs.Tests.{both}
 use Rattle.laws.proofs.Cases.{cases, bool, eq-or, lt-or, true-false}
 use Rattle.laws.proofs.Tests.{both-yes, both-of}
@@ -77,6 +77,29 @@ module _ (n : ℕ) (Good : (ℕ → ℕ) → Type 0) where
   pub listed-good : {k : ℕ} {c : ℕ → ℕ} → Listed n Good k c → Good c
   listed-good (start f) = f .good
   listed-good (more l f) = f .good
+
+  -- the choices that a list goes through
+  pub along : {k : ℕ} {c : ℕ → ℕ} → Listed n Good k c → ℕ → ℕ → ℕ
+  along (start {c = c} f) j = c
+  along (more {k = k} {d = d} l f) j = cond (ltb k j) d (along l j)
+
+  pub along-first : {k : ℕ} {c : ℕ → ℕ} (l : Listed n Good k c) → First n Good (along l 0)
+  unfolding along
+  along-first (start f) = f
+  along-first (more {k = k} l f) = rw (le-ltb k 0 (omega arith)) (along-first l)
+
+  pub along-last : {k : ℕ} {c : ℕ → ℕ} (l : Listed n Good k c) → along l k ≡ c
+  unfolding along
+  along-last (start f) = refl
+  along-last (more {k = k} l f) = rw (lt-ltb k (suc k) (omega arith)) refl
+
+  pub along-next : {k : ℕ} {c : ℕ → ℕ} (l : Listed n Good k c) (j : ℕ) → j < k → Next n Good (along l j) (along l (suc j))
+  unfolding along
+  along-next (start f) j h = absurd (omega arith)
+  along-next (more {k = k} {c = c} {d = d} l f) j h =
+      cases (lt-or j k)
+      (λ o. rw (le-ltb k j (omega arith), le-ltb k (suc j) o) (along-next l j o))
+      (λ o. let e : j ≡ k = omega arith in rw (e, le-ltb k k (omega arith), lt-ltb k (suc k) (omega arith), along-last l) f)
 
 -- Choices as numbers
 
