@@ -78,6 +78,10 @@ module _ (n : ℕ) (Good : (ℕ → ℕ) → Type 0) where
   listed-good (start f) = f .good
   listed-good (more l f) = f .good
 
+  -- nothing stands past the last
+  pub listed-bound : {j k : ℕ} {c d : ℕ → ℕ} → Listed n Good k d → Last n Good d → Listed n Good j c → j ≤ k
+  listed-bound {j} {k} {c} l z p = cases (lt-or k j) (λ h. absurd (z c (listed-good p) (listed-rising l p h))) (λ h. h)
+
   -- the choices that a list goes through
   pub along : {k : ℕ} {c : ℕ → ℕ} → Listed n Good k c → ℕ → ℕ → ℕ
   along (start {c = c} f) j = c
@@ -100,6 +104,10 @@ module _ (n : ℕ) (Good : (ℕ → ℕ) → Type 0) where
       cases (lt-or j k)
       (λ o. rw (le-ltb k j (omega arith), le-ltb k (suc j) o) (along-next l j o))
       (λ o. let e : j ≡ k = omega arith in rw (e, le-ltb k k (omega arith), lt-ltb k (suc k) (omega arith), along-last l) f)
+
+  pub along-listed : {k : ℕ} {c : ℕ → ℕ} (l : Listed n Good k c) (j : ℕ) → j ≤ k → Listed n Good j (along l j)
+  along-listed l zero h = start (along-first l)
+  along-listed l (suc j) h = more (along-listed l j (omega arith)) (along-next l j h)
 
 -- Choices as numbers
 

@@ -1,14 +1,15 @@
 -- The listing theorem for the calls: every run, from first choice to 9, holds every proper choice exactly once, in rising order; and the calls, asked
 -- again and again, make a run. What the calls leave is what the order of choices calls first and next, step for step, so that two runs agree; and each
 -- step of the list of choices is one that the calls' statements allow.
-use mathlib.Core.Bool.{cond}
+use mathlib.Core.Bool.{Bool, cond}
 use mathlib.Core.List.{List}
 use mathlib.Core.Logic.{inl, inr}
-use mathlib.Core.Path.{_≡_, refl, sym, _∙_}
-use Prim.Native.Nat.{ℕ, zero, suc, _/_, _≤_, _<_}
+use mathlib.Core.Path.{_≡_, refl, sym, ap, _∙_}
+use Prim.Native.Nat.{ℕ, zero, suc, _/_, _^_, _≤_, _<_}
 use native.Mathlib.Omega.{arith}
 use lib.ListN.{length}
 use Rattle.laws.specs.Checks.{check}
+use Rattle.laws.specs.Counting.{count}
 use Rattle.laws.proofs.Cases.{cases, bool, lt-or}
 use Rattle.network.specs.Network.{network}
 use Rattle.network.specs.declared.Answer.{Answer}
@@ -23,13 +24,15 @@ use Rattle.fork.proofs.Aligning.{settled, settled-aligned}
 use Rattle.fork.proofs.Choices.{aligned-agree}
 use Rattle.groups.specs.Order.{at, Agree, Last, Listed, Listing}
 use Rattle.groups.proofs.Order.{before-same}
+use Rattle.groups.proofs.Listing.{value}
 use Rattle.choice.specs.Choice.{Drawable, Proper}
 use Rattle.choice.specs.Calls.{Chosen, Ringed, FirstChoice, NextChoice}
-use Rattle.listed.specs.Listing.{Accepted, Steps, Run, Asked, Whole, Lists}
+use Rattle.listed.specs.Listing.{Accepted, Steps, Run, Asked, Complete, Lists}
 use Rattle.listed.proofs.Granted.{fit, properb, proper-of, proper-yes, proper-agree}
 use Rattle.listed.proofs.Outcomes.{first-says, next-outdone, next-last}
 use Rattle.listed.proofs.Stepwise.{with-number, first-zero, steps-listed, buffer, may-begin, may-go-on, may-end}
-use Rattle.listed.proofs.Enumerating.{same-place, listed-rising, listed-once, listed-good, along, along-first, along-next, along-last, listing-by-test}
+use Rattle.listed.proofs.Enumerating.{same-place, listed-rising, listed-once, listed-good, listed-bound, along, along-first, along-next, along-last, along-listed, listing-by-test}
+use Rattle.listed.proofs.Doubling.{free, counts-up, power-of-two, turn-proper, parting-side}
 
 -- Where a choice is legal there is a proper one: the aligned one, with no side at tree lines.
 
@@ -81,11 +84,6 @@ module _ (n : ℕ) (ends : List ℕ) (a : Accepted n ends) (drawable : Drawable 
   unfolding highest
   highest-last = list .ends .3
 
-  -- nothing stands past the last
-  not-past : {j : ℕ} {c : ℕ → ℕ} → Listed m Good j c → j ≤ last
-  not-past {j} {c} l =
-      cases (lt-or last j) (λ h. absurd (highest-last c (listed-good m Good l) (listed-rising m Good highest-listed l h))) (λ h. h)
-
   module _ {k : ℕ} {held : ℕ → List ℕ} (s : Steps n ends k held) where
     listed : (j : ℕ) → j ≤ k → Listed m Good j (at (held j))
     listed j h = steps-listed n ends s j h .0
@@ -94,7 +92,7 @@ module _ (n : ℕ) (ends : List ℕ) (a : Accepted n ends) (drawable : Drawable 
     proper j h = listed-good m Good (listed j h)
 
     steps-bound : k ≤ last
-    steps-bound = not-past (listed k (omega arith))
+    steps-bound = listed-bound m Good highest-listed highest-last (listed k (omega arith))
 
     module _ {d : List ℕ} {r : Answer} (f : NextChoice n ends (held k) r d) where
       says-zero : k < last → r .number ≡ 0
@@ -110,23 +108,32 @@ module _ (n : ℕ) (ends : List ℕ) (a : Accepted n ends) (drawable : Drawable 
           (λ o. highest-last (o .0) (o .1) (before-same m (at (held k)) highest (o .0) (o .0) same (λ b h. refl) (o .2))) f .answers)
 
   module _ {k : ℕ} {held : ℕ → List ℕ} (run : Run n ends k held) where
-    whole-length : k ≡ last
-    whole-length =
+    run-length : k ≡ last
+    run-length =
         cases (lt-or k last)
         (λ h. absurd (let q = run .nine .1 in omega (arith, q .2, says-zero (run .steps) (q .1) h)))
         (λ h. omega (arith, steps-bound (run .steps)))
 
-    whole : Whole n ends k held
-    whole =
+    complete : Complete n ends k held
+    complete =
         record {
           proper = proper (run .steps);
           every = λ c p.
               let q = list .every c p in
-              let h : q .0 ≤ k = omega (arith, whole-length, not-past (q .1)) in
+              let h : q .0 ≤ k = omega (arith, run-length, listed-bound m Good highest-listed highest-last (q .1)) in
               (q .0, h, same-place m Good (q .1) (listed (run .steps) (q .0) h));
           once = λ i j h o e. listed-once m Good e (listed (run .steps) i h) (listed (run .steps) j o);
           rising = λ i j h o. listed-rising m Good (listed (run .steps) i (omega arith)) (listed (run .steps) j o) h;
         }
+
+    counter : (free : ℕ → Bool) × (suc k ≡ 2 ^ count free m) × ((j : ℕ) → j ≤ k → value free (at (held j)) m ≡ j)
+    unfolding last
+    counter =
+        let S = tree-in (network n ends) in (
+          free m Good (turn-proper S) (parting-side S) list,
+          ap suc run-length ∙ power-of-two m Good (turn-proper S) (parting-side S) list,
+          λ j h. counts-up m Good (turn-proper S) (parting-side S) list (listed (run .steps) j h),
+        )
 
   some-run : (held : ℕ → List ℕ) × Run n ends last held
   some-run =
@@ -146,8 +153,7 @@ module _ (n : ℕ) (ends : List ℕ) (a : Accepted n ends) (drawable : Drawable 
       )
     where
       good : (j : ℕ) → j ≤ last → Good (along m Good highest-listed j)
-      good zero h = along-first m Good highest-listed .good
-      good (suc j) h = along-next m Good highest-listed j h .good
+      good j h = listed-good m Good (along-listed m Good highest-listed j h)
 
   module _ {choice lines kinds c l k : List ℕ} {r : Answer} (bytes : m ≤ length choice) (ring : m ≤ length lines) (ring′ : m ≤ length kinds)
       (f : FirstChoice n ends choice lines kinds r c l k) where
@@ -168,7 +174,7 @@ module _ (n : ℕ) (ends : List ℕ) (a : Accepted n ends) (drawable : Drawable 
       no-further = λ s. steps-bound s;
       same = λ s t i h o. same-place m Good (listed s i h) (listed t i o);
       some-run = some-run;
-      whole = λ run. (whole-length run, whole run);
+      complete = λ run. (run-length run, complete run);
     },
   )
 
@@ -180,16 +186,22 @@ module _ (n : ℕ) (ends : List ℕ) where
 
   -- Every run, from first choice to 9, holds every proper choice, each once, in rising order. (That it began says that the network is accepted and
   -- has a legal choice.)
-  pub every-run-is-whole : (last : ℕ) (held : ℕ → List ℕ) → Run n ends last held → Whole n ends last held
-  every-run-is-whole last held run = begun-lists (run .steps) .1 .whole run .1
+  pub every-run-is-complete : (last : ℕ) (held : ℕ → List ℕ) → Run n ends last held → Complete n ends last held
+  every-run-is-complete last held run = begun-lists (run .steps) .1 .complete run .1
 
   -- Two runs have the same length, and hold the same choice at the same step.
   pub runs-agree : (j k : ℕ) (held held′ : ℕ → List ℕ) → Run n ends j held → Run n ends k held′
       → (j ≡ k) × ((i : ℕ) → i ≤ j → Agree (length ends / 2) (at (held i)) (at (held′ i)))
   runs-agree j k held held′ run run′ =
       let lists = begun-lists (run .steps) .1 in
-      let alike : j ≡ k = lists .whole run .0 ∙ sym (lists .whole run′ .0) in
+      let alike : j ≡ k = lists .complete run .0 ∙ sym (lists .complete run′ .0) in
       (alike, λ i h. lists .same (run .steps) (run′ .steps) i h (omega arith))
+
+  -- The number of choices is a power of two, and the step is that of a binary counter: the sides of some lines, the lowest line's first, are the
+  -- step's number, and any sides of theirs are met.
+  pub binary-counter : (last : ℕ) (held : ℕ → List ℕ) → Run n ends last held
+      → (digit : ℕ → Bool) × (suc last ≡ 2 ^ count digit (length ends / 2)) × ((j : ℕ) → j ≤ last → value digit (at (held j)) (length ends / 2) ≡ j)
+  binary-counter last held run = let q = first-zero n ends (run .steps .begins .6) (run .steps .begins .7) in counter n ends (q .0) (q .1) run
 
   -- The calls, asked again and again, make a run: they come to 9.
   pub asked-until-nine : Accepted n ends → Drawable (tree-in (network n ends)) → (held : ℕ → List ℕ) → Asked n ends held → (last : ℕ) × Run n ends last held

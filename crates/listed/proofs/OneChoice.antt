@@ -27,7 +27,7 @@ use Rattle.choice.specs.Calls.{Chosen, Ringed, FirstChoice, NextChoice}
 use Rattle.listed.specs.Listing.{Accepted, Run}
 use Rattle.listed.proofs.Granted.{fit}
 use Rattle.listed.proofs.Outcomes.{first-says, next-last}
-use Rattle.listed.proofs.Listed.{every-run-is-whole}
+use Rattle.listed.proofs.Listed.{every-run-is-complete}
 
 module _ (n : ℕ) (ends : List ℕ) (a : Accepted n ends) (no-backs : back-lines (network n ends) ≡ 0) where
   abbrev S : Tree
@@ -82,7 +82,7 @@ module _ (n : ℕ) (ends : List ℕ) (a : Accepted n ends) (no-backs : back-line
   pub one-choice : (last : ℕ) (held : ℕ → List ℕ) → Run n ends last held → last ≡ 0
   one-choice zero held run = refl
   one-choice (suc last) held run =
-      let w = every-run-is-whole n ends (suc last) held run in
+      let w = every-run-is-complete n ends (suc last) held run in
       absurd (one-bare (at (held 0)) (at (held (suc last)))
       (proper-bare (at (held 0)) (w .proper 0 (omega arith)))
       (proper-bare (at (held (suc last))) (w .proper (suc last) (omega arith)))

@@ -19,7 +19,7 @@ use Rattle.groups.specs.Order.{at, Agree, First, Next, Last, Listed, start, mor
 use Rattle.groups.proofs.Order.{agree-sym, before-same, first-agree}
 use Rattle.choice.specs.Choice.{Drawable, Proper, Outdone}
 use Rattle.choice.specs.Calls.{Kept, cramped-first, Untouched, Chosen, Ringed, FirstChoice, cramped-next, Unmoved, Stepped, NextChoice}
-use Rattle.listed.specs.Listing.{Accepted, FirstGives, NextSays, Steps}
+use Rattle.listed.specs.Listing.{Accepted, FirstSays, NextSays, Steps}
 use Rattle.listed.proofs.Granted.{passed, proper-agree}
 use Rattle.listed.proofs.Outcomes.{first-by, next-by, next-nine-by}
 use Rattle.listed.proofs.Enumerating.{next-agree}
@@ -115,7 +115,7 @@ module _ (n : ℕ) (ends : List ℕ) (a : Accepted n ends) where
   holds-proper : (c : ℕ → ℕ) → Proper (tree-in (network n ends)) c → Proper (tree-in (network n ends)) (at (buffer c))
   holds-proper c = proper-agree (tree-in (network n ends)) c (at (buffer c)) (holds c)
 
-  pub may-begin : (c : ℕ → ℕ) → First (length ends / 2) (Proper (tree-in (network n ends))) c → FirstGives n ends (buffer c)
+  pub may-begin : (c : ℕ → ℕ) → First (length ends / 2) (Proper (tree-in (network n ends))) c → FirstSays n ends 0 (buffer c)
   may-begin c f =
       let b = buffer c in
       let p = holds-proper c (f .good) in
