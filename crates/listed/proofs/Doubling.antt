@@ -133,31 +133,31 @@ module _ (n : ℕ) (Good : (ℕ → ℕ) → Type 0) (turned : (c d e : ℕ → 
 
   -- The place of a choice is what its free lines read.
 
-  first-zero : (c : ℕ → ℕ) → First n Good c → value free c n ≡ 0
-  first-zero c f =
+  first-reads : (c : ℕ → ℕ) → First n Good c → value free c n ≡ 0
+  first-reads c f =
       let q = met n (omega arith) 0 (omega (arith, bounded c (f .good) n (omega arith))) in
       cases (f .least (q .0) (q .1))
       (λ a. value-agree free c (q .0) n a ∙ q .2)
       (λ l. absurd (omega (arith, q .2, up n Good free led c (q .0) (f .good) (q .1) l)))
 
-  next-more : (c d : ℕ → ℕ) → Good c → Next n Good c d → value free d n ≡ suc (value free c n)
-  next-more c d g f =
+  next-reads : (c d : ℕ → ℕ) → Good c → Next n Good c d → value free d n ≡ suc (value free c n)
+  next-reads c d g f =
       let over = up n Good free led c d g (f .good) (f .after) in
       let q = met n (omega arith) (suc (value free c n)) (omega (arith, bounded d (f .good) n (omega arith))) in
       cases (f .least (q .0) (q .1) (by-rank n Good free led c (q .0) g (q .1) (omega (arith, q .2))))
       (λ a. value-agree free d (q .0) n a ∙ q .2)
       (λ l. absurd (omega (arith, q .2, up n Good free led d (q .0) (f .good) (q .1) l)))
 
-  pub counts-up : {k : ℕ} {c : ℕ → ℕ} → Listed n Good k c → value free c n ≡ k
-  counts-up (start {c} f) = first-zero c f
-  counts-up (more {c = c} {d = d} l f) = next-more c d (listed-good n Good l) f ∙ ap suc (counts-up l)
+  pub place-reads : {k : ℕ} {c : ℕ → ℕ} → Listed n Good k c → value free c n ≡ k
+  place-reads (start {c} f) = first-reads c f
+  place-reads (more {c = c} {d = d} l f) = next-reads c d (listed-good n Good l) f ∙ ap suc (place-reads l)
 
   pub power-of-two : suc (list .ends .0) ≡ 2 ^ count free n
   power-of-two =
       let c = list .ends .1 in
       let l = list .ends .2 in
       let g = listed-good n Good l in
-      let k = counts-up l in
+      let k = place-reads l in
       cases (lt-or (suc (list .ends .0)) (2 ^ count free n))
       (λ h.
       let q = met n (omega arith) (suc (list .ends .0)) h in

@@ -1,6 +1,6 @@
 -- The listing theorem for the calls: every run, from first choice to 9, holds every proper choice exactly once, in rising order; and the calls, asked
--- again and again, make a run. What the calls leave is what the order of choices calls first and next, step for step, so that two runs agree; and each
--- step of the list of choices is one that the calls' statements allow.
+-- again and again, make a run. By Stepwise what a run holds is, step for step, the list of choices, of which Enumerating says that it is complete and
+-- has an end, and Doubling how long it is.
 use mathlib.Core.Bool.{Bool, cond}
 use mathlib.Core.List.{List}
 use mathlib.Core.Logic.{inl, inr}
@@ -32,7 +32,7 @@ use Rattle.listed.proofs.Granted.{fit, properb, proper-of, proper-yes, 
 use Rattle.listed.proofs.Outcomes.{first-says, next-outdone, next-last}
 use Rattle.listed.proofs.Stepwise.{with-number, first-zero, steps-listed, buffer, may-begin, may-go-on, may-end}
 use Rattle.listed.proofs.Enumerating.{same-place, listed-rising, listed-once, listed-good, listed-bound, along, along-first, along-next, along-last, along-listed, listing-by-test}
-use Rattle.listed.proofs.Doubling.{free, counts-up, power-of-two, turn-proper, parting-side}
+use Rattle.listed.proofs.Doubling.{free, place-reads, power-of-two, turn-proper, parting-side}
 
 -- Where a choice is legal there is a proper one: the aligned one, with no side at tree lines.
 
@@ -126,13 +126,13 @@ module _ (n : ℕ) (ends : List ℕ) (a : Accepted n ends) (drawable : Drawable 
           rising = λ i j h o. listed-rising m Good (listed (run .steps) i (omega arith)) (listed (run .steps) j o) h;
         }
 
-    counter : (free : ℕ → Bool) × (suc k ≡ 2 ^ count free m) × ((j : ℕ) → j ≤ k → value free (at (held j)) m ≡ j)
+    counter : (digit : ℕ → Bool) × (suc k ≡ 2 ^ count digit m) × ((j : ℕ) → j ≤ k → value digit (at (held j)) m ≡ j)
     unfolding last
     counter =
         let S = tree-in (network n ends) in (
           free m Good (turn-proper S) (parting-side S) list,
           ap suc run-length ∙ power-of-two m Good (turn-proper S) (parting-side S) list,
-          λ j h. counts-up m Good (turn-proper S) (parting-side S) list (listed (run .steps) j h),
+          λ j h. place-reads m Good (turn-proper S) (parting-side S) list (listed (run .steps) j h),
         )
 
   some-run : (held : ℕ → List ℕ) × Run n ends last held
@@ -197,8 +197,8 @@ module _ (n : ℕ) (ends : List ℕ) where
       let alike : j ≡ k = lists .complete run .0 ∙ sym (lists .complete run′ .0) in
       (alike, λ i h. lists .same (run .steps) (run′ .steps) i h (omega arith))
 
-  -- The number of choices is a power of two, and the step is that of a binary counter: the sides of some lines, the lowest line's first, are the
-  -- step's number, and any sides of theirs are met.
+  -- The number of choices is a power of two, and the step is that of a binary counter: some lines are its digits, the lowest line the heaviest, and
+  -- their sides are the number of the step.
   pub binary-counter : (last : ℕ) (held : ℕ → List ℕ) → Run n ends last held
       → (digit : ℕ → Bool) × (suc last ≡ 2 ^ count digit (length ends / 2)) × ((j : ℕ) → j ≤ last → value digit (at (held j)) (length ends / 2) ≡ j)
   binary-counter last held run = let q = first-zero n ends (run .steps .begins .6) (run .steps .begins .7) in counter n ends (q .0) (q .1) run

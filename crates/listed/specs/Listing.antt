@@ -38,8 +38,8 @@ pub record Run (n : ℕ) (ends : List ℕ) (last : ℕ) (held : ℕ → List ℕ
   pub steps : Steps n ends last held
   pub nine : (d : List ℕ) × NextSays n ends (held last) 9 d
 
--- First choice, lent room, and then next choice again and again, whatever they say: `held j` is what they left in the choice's buffer by the j-th of
--- the calls of next choice.
+-- First choice, lent room, and then next choice again and again, whatever they say: `held j` is what stands in the choice's buffer after j calls of
+-- next choice.
 pub record Asked (n : ℕ) (ends : List ℕ) (held : ℕ → List ℕ) : Type 0 where
   pub choice : List ℕ
   pub lines : List ℕ
