@@ -28,11 +28,11 @@ unfoldable pub turn : (ℕ → ℕ) → (ℕ → ℕ) → (ℕ → ℕ) → ℕ 
 turn c d e b = cond (eqb (d b) (e b)) (c b) (1 - c b)
 
 module _ (c d e : ℕ → ℕ) (b : ℕ) where
-  pub turn-keeps : d b ≡ e b → turn c d e b ≡ c b
+  turn-keeps : d b ≡ e b → turn c d e b ≡ c b
   unfolding turn
   turn-keeps s = rw (eq-eqb (d b) (e b) s)
 
-  pub turn-turns : (d b ≡ e b → ⊥) → turn c d e b ≡ 1 - c b
+  turn-turns : (d b ≡ e b → ⊥) → turn c d e b ≡ 1 - c b
   unfolding turn
   turn-turns s = rw (ne-eqb (d b) (e b) s)
 

@@ -16,7 +16,7 @@ use Rattle.groups.proofs.Order.{agree-sym, three, never-alike, before-same, fir
 
 -- Whatever is good
 
-pub before-trans : (n : ℕ) (c d e : ℕ → ℕ) → Before n c d → Before n d e → Before n c e
+before-trans : (n : ℕ) (c d e : ℕ → ℕ) → Before n c d → Before n d e → Before n c e
 before-trans n c d e p q =
     cases (lt-or (p .place) (q .place))
     (λ l.
@@ -247,7 +247,7 @@ module _ (n : ℕ) (Good : (ℕ → ℕ) → Type 0) (goodb : (ℕ → ℕ) → 
       cases (before-it c g) (λ q. (zero, start q))
       (λ q. let r = reached f (spell n (q .0)) (q .2) (omega (arith, q .1, q .3)) in (suc (r .0), more (r .1) (q .4)))
 
-  pub every : (c : ℕ → ℕ) → Good c → (k : ℕ) × Listed n Good k c
+  every : (c : ℕ → ℕ) → Good c → (k : ℕ) × Listed n Good k c
   every c g = reached (code c n) c g (omega arith)
 
   pub listing-by-test : (c : ℕ → ℕ) → Good c → Listing n Good
