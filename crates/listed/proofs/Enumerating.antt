@@ -6,8 +6,8 @@ use mathlib.Core.Logic.{_⊎_, inl, inr, _≢_}
 use mathlib.Core.Path.{_≡_, refl, sym, _∙_}
 use Prim.Native.Nat.{ℕ, zero, suc, _+_, _*_, _/_, _%_, _≤_, _<_}
 use native.Mathlib.Omega.{arith}
-use lib.Dec.{eqb}
-use borrow.Author.Tests.{eq-eqb, ne-eqb, eqb-true}
+use lib.Dec.{eqb, ltb}
+use borrow.Author.Tests.{eq-eqb, ne-eqb, eqb-true, lt-ltb, le-ltb}
 use Rattle.laws.specs.Tests.{both}
 use Rattle.laws.specs.Lists.{Agree}
 use Rattle.laws.specs.Dictionary.{Before, First, Next, Last, Listed, start, more, Listing}
@@ -17,7 +17,7 @@ use Rattle.laws.proofs.Dictionary.{agree-sym, three, never-alike, before-same, 
 
 -- Whatever is good
 
-pub before-trans : (n : ℕ) (c d e : ℕ → ℕ) → Before n c d → Before n d e → Before n c e
+before-trans : (n : ℕ) (c d e : ℕ → ℕ) → Before n c d → Before n d e → Before n c e
 before-trans n c d e p q =
     cases (lt-or (p .place) (q .place))
     (λ l.
@@ -78,6 +78,37 @@ module _ (n : ℕ) (Good : (ℕ → ℕ) → Type 0) where
   pub listed-good : {k : ℕ} {c : ℕ → ℕ} → Listed n Good k c → Good c
   listed-good (start f) = f .good
   listed-good (more l f) = f .good
+
+  -- nothing stands past the last
+  pub listed-bound : {j k : ℕ} {c d : ℕ → ℕ} → Listed n Good k d → Last n Good d → Listed n Good j c → j ≤ k
+  listed-bound {j} {k} {c} l z p = cases (lt-or k j) (λ h. absurd (z c (listed-good p) (listed-rising l p h))) (λ h. h)
+
+  -- the choices that a list goes through
+  pub along : {k : ℕ} {c : ℕ → ℕ} → Listed n Good k c → ℕ → ℕ → ℕ
+  along (start {c = c} f) j = c
+  along (more {k = k} {d = d} l f) j = cond (ltb k j) d (along l j)
+
+  pub along-first : {k : ℕ} {c : ℕ → ℕ} (l : Listed n Good k c) → First n Good (along l 0)
+  unfolding along
+  along-first (start f) = f
+  along-first (more {k = k} l f) = rw (le-ltb k 0 (omega arith)) (along-first l)
+
+  pub along-last : {k : ℕ} {c : ℕ → ℕ} (l : Listed n Good k c) → along l k ≡ c
+  unfolding along
+  along-last (start f) = refl
+  along-last (more {k = k} l f) = rw (lt-ltb k (suc k) (omega arith)) refl
+
+  pub along-next : {k : ℕ} {c : ℕ → ℕ} (l : Listed n Good k c) (j : ℕ) → j < k → Next n Good (along l j) (along l (suc j))
+  unfolding along
+  along-next (start f) j h = absurd (omega arith)
+  along-next (more {k = k} {c = c} {d = d} l f) j h =
+      cases (lt-or j k)
+      (λ o. rw (le-ltb k j (omega arith), le-ltb k (suc j) o) (along-next l j o))
+      (λ o. let e : j ≡ k = omega arith in rw (e, le-ltb k k (omega arith), lt-ltb k (suc k) (omega arith), along-last l) f)
+
+  pub along-listed : {k : ℕ} {c : ℕ → ℕ} (l : Listed n Good k c) (j : ℕ) → j ≤ k → Listed n Good j (along l j)
+  along-listed l zero h = start (along-first l)
+  along-listed l (suc j) h = more (along-listed l j (omega arith)) (along-next l j h)
 
 -- Choices as numbers
 
@@ -217,7 +248,7 @@ module _ (n : ℕ) (Good : (ℕ → ℕ) → Type 0) (goodb : (ℕ → ℕ) → 
       cases (before-it c g) (λ q. (zero, start q))
       (λ q. let r = reached f (spell n (q .0)) (q .2) (omega (arith, q .1, q .3)) in (suc (r .0), more (r .1) (q .4)))
 
-  pub every : (c : ℕ → ℕ) → Good c → (k : ℕ) × Listed n Good k c
+  every : (c : ℕ → ℕ) → Good c → (k : ℕ) × Listed n Good k c
   every c g = reached (code c n) c g (omega arith)
 
   pub listing-by-test : (c : ℕ → ℕ) → Good c → Listing n Good

@@ -11,9 +11,9 @@ use borrow.Author.Tests.{eq-eqb, le-ltb, eqb-true}
 use Rattle.laws.specs.Tests.{both, either, all}
 use Rattle.laws.specs.Lists.{Agree}
 use Rattle.laws.proofs.Cases.{cases, bool, true-false}
-use Rattle.laws.proofs.Tests.{both-yes, both-of, either-first, either-second, either-of, either-no, all-of, all-yes}
+use Rattle.laws.proofs.Tests.{both-yes, both-of, either-first, either-second, either-of, either-no, either-neither, all-of, all-yes}
 use Rattle.network.specs.Network.{network}
-use Rattle.network.specs.Numbers.{oversize, odd, astray, mispaired, Checked, Accepted}
+use Rattle.network.specs.Numbers.{Checked, Accepted}
 use Rattle.network.specs.Inside.{Fit}
 use Rattle.network.proofs.Sifting.{fit-when}
 use Rattle.tree.specs.Tree.{Tree}
@@ -54,17 +54,19 @@ module _ (n : ℕ) (ends : List ℕ) where
       granted (inr (_, inr (_, inr (_, inr (_, inl (c, g)))))) = g
       granted (inr (_, inr (_, inr (_, inr (_, inr (c, x)))))) = absurd (c (a .connected))
 
-  -- a result that is no refusal had room, and is granted
+  -- a result that is no refusal: the network is accepted, there was room, and it is what is granted
   false-when : (b : Bool) → (b ≡ true → ⊥) → b ≡ false
   false-when true d = absurd (d refl)
   false-when false d = refl
 
-  pub passed : {short : Bool} {R : ℕ → Type 0} {G : Type 0} → ((k : ℕ) → 0 < k → R k → ⊥) → Checked n ends short R G → (short ≡ false) × G
+  pub passed : {short : Bool} {R : ℕ → Type 0} {G : Type 0} → ((k : ℕ) → 0 < k → R k → ⊥) → Checked n ends short R G → Accepted n ends × (short ≡ false) × G
   passed f (inl (t, x)) = absurd (f 2 (omega arith) x)
   passed f (inr (_, inl (t, x))) = absurd (f 3 (omega arith) x)
   passed f (inr (_, inr (_, inl (t, x)))) = absurd (f 4 (omega arith) x)
   passed f (inr (_, inr (_, inr (_, inl (t, x))))) = absurd (f 5 (omega arith) x)
-  passed f (inr (_, inr (three, inr (_, inr (_, inl (c, g)))))) = (false-when _ (λ t. three (either-second _ _ t)), g)
+  passed f (inr (two, inr (three, inr (four, inr (five, inl (c, g)))))) =
+      let paired = either-neither (false-when _ three) in
+      (record { sized = false-when _ two; paired-ends = paired .0; inside = false-when _ four; single = false-when _ five; connected = c }, paired .1, g)
   passed f (inr (_, inr (_, inr (_, inr (_, inr (c, x)))))) = absurd (f 6 (omega arith) x)
 
   pub room-first : (choice lines kinds : List ℕ) → length ends / 2 ≤ length choice → length ends / 2 ≤ length lines → length ends / 2 ≤ length kinds → cramped-first ends choice lines kinds ≡ false

@@ -2,6 +2,8 @@ pub mod Tight
 pub mod Granted
 pub mod Outcomes
 pub mod Enumerating
+pub mod Doubling
+pub mod Stepwise
 pub mod Listed
 pub mod OneChoice
 pub mod Moves

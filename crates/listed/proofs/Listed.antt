@@ -1,118 +1,48 @@
--- The listing theorem for the calls: first choice, and then next choice again and again, hand back every proper choice exactly once, in rising order,
--- and then 9. What the calls hand back is what the order of choices calls first and next, step for step; and each step of the list of choices is one
--- that the calls' statements allow.
-use mathlib.Core.Bool.{cond}
+-- The listing theorem for the calls: every run, from first choice to 9, holds every proper choice exactly once, in rising order; and the calls, asked
+-- again and again, make a run. By Stepwise what a run holds is, step for step, the list of choices, of which Enumerating says that it is complete and
+-- has an end, and Doubling how long it is.
+use mathlib.Core.Bool.{Bool, cond}
 use mathlib.Core.List.{List}
-use mathlib.Core.Logic.{inl, inr, _≢_}
-use mathlib.Core.Path.{_≡_, refl, sym, ap, _∙_, subst}
-use Prim.Native.Nat.{ℕ, zero, suc, _/_, _≤_, _<_}
+use mathlib.Core.Logic.{inl, inr}
+use mathlib.Core.Path.{_≡_, refl, sym, ap, _∙_}
+use Prim.Native.Nat.{ℕ, zero, suc, _/_, _^_, _≤_, _<_}
 use native.Mathlib.Omega.{arith}
-use lib.ListN.{length, set, length-set, replicate, length-replicate}
-use lib.Seq.{ext-getD, getD-set-same, getD-set-other}
-use borrow.Author.Tests.{ltb-false}
+use lib.ListN.{length}
 use Rattle.laws.specs.Checks.{check}
-use Rattle.laws.specs.Lists.{at, Agree, Kept}
-use Rattle.laws.specs.Dictionary.{First, Next, Last, Listed, start, more, Listing}
-use Rattle.laws.proofs.Cases.{cases, bool, lt-or, eq-or}
-use Rattle.laws.proofs.Tests.{either-neither}
-use Rattle.laws.proofs.Dictionary.{agree-sym, before-same, first-agree}
+use Rattle.laws.specs.Counting.{count}
+use Rattle.laws.specs.Lists.{at, Agree}
+use Rattle.laws.specs.Dictionary.{Last, Listed, Listing}
+use Rattle.laws.proofs.Cases.{cases, bool, lt-or}
+use Rattle.laws.proofs.Dictionary.{before-same}
 use Rattle.network.specs.Network.{network}
-use Rattle.network.specs.Numbers.{refused, done, Untouched, triple, Accepted}
 use Rattle.network.specs.declared.Answer.{Answer}
+use Rattle.network.specs.Numbers.{Accepted}
 use Rattle.tree.specs.Tree.{Tree}
 use Rattle.tree.specs.Returns.{backb}
 use Rattle.tree.proofs.Searched.{Searched}
 use Rattle.search.specs.Machine.{tree-in}
-use Rattle.search.specs.Orient.{back-lines}
 use Rattle.search.proofs.Grows.{tree-searched}
 use Rattle.side.specs.Sides.{none}
 use Rattle.fork.proofs.Rule.{back-of, back-yes}
 use Rattle.fork.proofs.Aligning.{settled, settled-aligned}
 use Rattle.fork.proofs.Choices.{aligned-agree}
-use Rattle.choice.specs.Choice.{Drawable, Proper, Outdone}
-use Rattle.choice.specs.Calls.{cramped-first, Chosen, Ringed, FirstChoice, cramped-next, Stepped, NextChoice}
-use Rattle.listed.specs.Listing.{Called, begun, went-on, Lists}
-use Rattle.listed.proofs.Granted.{fit, passed, properb, proper-of, proper-yes, proper-agree}
-use Rattle.listed.proofs.Outcomes.{first-by, next-says, next-outdone, next-last, next-by}
-use Rattle.listed.proofs.Enumerating.{next-agree, listed-rising, listed-once, listed-good, listing-by-test}
+use Rattle.groups.proofs.Ranks.{value}
+use Rattle.choice.specs.Choice.{Drawable, Proper}
+use Rattle.choice.specs.Calls.{Chosen, Ringed, FirstChoice, NextChoice}
+use Rattle.listed.specs.Listing.{Steps, Run, Asked, Complete, Lists}
+use Rattle.listed.proofs.Granted.{fit, properb, proper-of, proper-yes, proper-agree}
+use Rattle.listed.proofs.Outcomes.{first-says, next-outdone, next-last}
+use Rattle.listed.proofs.Stepwise.{with-number, first-zero, steps-listed, buffer, may-begin, may-go-on, may-end}
+use Rattle.listed.proofs.Enumerating.{same-place, listed-rising, listed-once, listed-good, listed-bound, along, along-first, along-next, along-last, along-listed, listing-by-test}
+use Rattle.listed.proofs.Doubling.{free, place-reads, power-of-two, turn-proper, parting-side}
 
--- What the calls hand back
+-- Where a choice is legal there is a proper one: the aligned one, with no side at tree lines.
 
-with-number : {r : Answer} {k : ℕ} → r ≡ refused k → r .number ≡ k
-with-number e = ap (λ (y : Answer). y .number) e
-
-module _ (n : ℕ) (ends : List ℕ) where
-  abbrev S : Tree
-  S = tree-in (network n ends)
-
-  first-zero : {choice lines kinds c l k : List ℕ} {r : Answer} → FirstChoice n ends choice lines kinds r c l k → r .number ≡ 0
-      → First (length ends / 2) (Proper S) (at c) × (length ends / 2 ≤ length c)
-  unfolding cramped-first
-  first-zero {choice} {lines} {kinds} {c} {l} {k} {r} f z =
-      let q = passed n ends (λ j some (u : Untouched (triple choice lines kinds) r (triple c l k) j). absurd (omega (arith, with-number (u .answers)))) f in
-      let room = ltb-false (length choice) (length ends / 2) (either-neither (q .0) .0) in
-      go room (q .1)
-    where
-      go : length ends / 2 ≤ length choice → check (Drawable S) (Chosen (network n ends) choice lines kinds r c l k) (Ringed (network n ends) choice lines kinds r c l k)
-          → First (length ends / 2) (Proper S) (at c) × (length ends / 2 ≤ length c)
-      go h (inl (_, x)) = (x .first, omega (arith, x .rest .long))
-      go h (inr (_, x)) = absurd (let w : r .number ≡ 7 = ap (λ (y : Answer). y .number) (x .answers) in omega arith)
-
-  pub next-zero : {c d : List ℕ} {r : Answer} → NextChoice n ends c r d → r .number ≡ 0 → Next (length ends / 2) (Proper S) (at c) (at d) × (length ends / 2 ≤ length d)
-  unfolding cramped-next
-  next-zero {c} {d} {r} f z =
-      let q = passed n ends (λ j some (u : Untouched c r d j). absurd (omega (arith, with-number (u .answers)))) f in
-      go (ltb-false (length c) (length ends / 2) (q .0)) (q .1)
-    where
-      go : length ends / 2 ≤ length c → check (Proper S (at c)) (check (Outdone S (at c)) (Stepped (network n ends) c r d) (Untouched c r d 9)) (Untouched c r d 8)
-          → Next (length ends / 2) (Proper S) (at c) (at d) × (length ends / 2 ≤ length d)
-      go h (inl (_, inl (_, x))) = (x .next, omega (arith, x .rest .long))
-      go h (inl (_, inr (_, u))) = absurd (omega (arith, with-number (u .answers)))
-      go h (inr (_, u)) = absurd (omega (arith, with-number (u .answers)))
-
-  pub called-listed : {k : ℕ} {c : List ℕ} → Called n ends k c → Listed (length ends / 2) (Proper S) k (at c) × (length ends / 2 ≤ length c)
-  called-listed (begun f z) = let q = first-zero f z in (start (q .0), q .1)
-  called-listed (went-on l f z) = let q = next-zero f z in (more (called-listed l .0) (q .0), q .1)
-
--- A buffer with the bytes of a choice in its first places
-
-unfoldable lay : ℕ → (ℕ → ℕ) → List ℕ → List ℕ
-lay zero f base = base
-lay (suc m) f base = set (lay m f base) m (f m)
-
-lay-long : (m : ℕ) (f : ℕ → ℕ) (base : List ℕ) → length (lay m f base) ≡ length base
-unfolding lay
-lay-long zero f base = refl
-lay-long (suc m) f base = length-set (lay m f base) m (f m) ∙ lay-long m f base
-
-lay-past : (m : ℕ) (f : ℕ → ℕ) (base : List ℕ) (b : ℕ) → m ≤ b → at (lay m f base) b ≡ at base b
-unfolding lay
-lay-past zero f base b h = refl
-lay-past (suc m) f base b h = getD-set-other (lay m f base) m b (f m) 0 (λ e. omega arith) ∙ lay-past m f base b (omega arith)
-
-lay-at : (m : ℕ) (f : ℕ → ℕ) (base : List ℕ) → m ≤ length base → Agree m f (at (lay m f base))
-unfolding lay
-lay-at zero f base o b h = absurd (omega arith)
-lay-at (suc m) f base o b h =
-    cases (eq-or b m)
-    (λ e. rw e (sym (getD-set-same (lay m f base) m (f m) 0 (omega (arith, lay-long m f base)))))
-    (λ d. let d′ : b ≢ m = d in lay-at m f base (omega arith) b (omega arith) ∙ sym (getD-set-other (lay m f base) m b (f m) 0 d))
-
-lay-kept : (m : ℕ) (f g : ℕ → ℕ) (base : List ℕ) → Kept m (lay m f base) (lay m g base)
-lay-kept m f g base =
-    record { long = lay-long m g base ∙ sym (lay-long m f base); past = λ j h. lay-past m g base j h ∙ sym (lay-past m f base j h) }
-
-lay-itself : (m : ℕ) (c : List ℕ) → m ≤ length c → lay m (at c) c ≡ c
-lay-itself m c h =
-    ext-getD 0 (lay m (at c) c) c (lay-long m (at c) c)
-    (λ i o. cases (lt-or i m) (λ l. sym (lay-at m (at c) c h i l)) (λ g. lay-past m (at c) c i g))
-
--- Proper choices have bytes below 3
+-- proper choices have bytes below 3
 proper-small : (S : Tree) (c : ℕ → ℕ) → Proper S c → (b : ℕ) → b < S .lines → c b ≤ 2
 proper-small S c p b h =
     cases (bool (backb S b)) (λ t. omega (arith, p .aligned .legal .bits b (back-of S b h t))) (λ f. omega (arith, p .no-side b h f))
 
--- where a choice is legal there is a proper one: the aligned one, with no side at tree lines
 unfoldable dressed : Tree → (ℕ → ℕ) → ℕ → ℕ
 dressed S c b = cond (backb S b) (c b) none
 
@@ -127,111 +57,174 @@ some-proper S X d =
       },
     )
 
--- Each step of the list of choices is one that the calls may take.
-
-module _ (n : ℕ) (ends : List ℕ) (a : Accepted n ends) (base : List ℕ) (room : length ends / 2 ≤ length base) where
-  laid : (ℕ → ℕ) → List ℕ
-  laid f = lay (length ends / 2) f base
-
-  laid-room : (f : ℕ → ℕ) → length ends / 2 ≤ length (laid f)
-  unfolding laid
-  laid-room f = omega (arith, lay-long (length ends / 2) f base)
-
-  laid-at : (f : ℕ → ℕ) → Agree (length ends / 2) f (at (laid f))
-  unfolding laid
-  laid-at f = lay-at (length ends / 2) f base room
-
-  laid-kept : (f g : ℕ → ℕ) → Kept (length ends / 2) (laid f) (laid g)
-  unfolding laid
-  laid-kept f g = lay-kept (length ends / 2) f g base
-
-  laid-proper : (f : ℕ → ℕ) → Proper (tree-in (network n ends)) f → Proper (tree-in (network n ends)) (at (laid f))
-  laid-proper f = proper-agree (tree-in (network n ends)) f (at (laid f)) (laid-at f)
-
-  laid-first : (f : ℕ → ℕ) → First (length ends / 2) (Proper (tree-in (network n ends))) f → Called n ends zero (laid f)
-  laid-first f q =
-      let c = laid f in
-      let p = laid-proper f (q .good) in
-      begun
-      (first-by n ends a c c c (laid-room f) (laid-room f) (laid-room f) (done (back-lines (network n ends)) 0) c c c (at c, p .aligned .legal)
-      (record {
-        answers = refl;
-        first = first-agree (length ends / 2) (Proper (tree-in (network n ends))) f (at c) q p (laid-at f);
-        rest = laid-kept f f;
-        same-lines = refl;
-        same-kinds = refl;
-      }))
-      refl
-
-  laid-next : {k : ℕ} (f g : ℕ → ℕ) → Proper (tree-in (network n ends)) f → Next (length ends / 2) (Proper (tree-in (network n ends))) f g → Called n ends k (laid f)
-      → Called n ends (suc k) (laid g)
-  laid-next f g p q l =
-      let x = next-agree (length ends / 2) (Proper (tree-in (network n ends))) f (at (laid f)) g (at (laid g)) (laid-at f) (laid-at g) (laid-proper g (q .good)) q in
-      went-on l
-      (next-by n ends a (laid f) (laid-room f) (done (back-lines (network n ends)) 0) (laid g) (laid-proper f p) (at (laid g), x .good, x .after)
-      (record { answers = refl; next = x; rest = laid-kept f g }))
-      refl
-
-  listed-called : {k : ℕ} {f : ℕ → ℕ} → Listed (length ends / 2) (Proper (tree-in (network n ends))) k f → Called n ends k (laid f)
-  listed-called (start {c = f} q) = laid-first f q
-  listed-called (more {c = f} {d = g} l q) = laid-next f g (listed-good (length ends / 2) (Proper (tree-in (network n ends))) l) q (listed-called l)
-
 -- The theorem
 
-module _ (n : ℕ) (ends : List ℕ) (a : Accepted n ends) where
-  reached : Listing (length ends / 2) (Proper (tree-in (network n ends))) → (c : List ℕ) → length ends / 2 ≤ length c → Proper (tree-in (network n ends)) (at c)
-      → (k : ℕ) × Called n ends k c
-  unfolding laid
-  reached list c h p =
-      let q = list .every (at c) p in
-      (q .0, subst (λ (d : List ℕ). Called n ends (q .0) d) (lay-itself (length ends / 2) c h) (listed-called n ends a c h (q .1)))
+module _ (n : ℕ) (ends : List ℕ) (a : Accepted n ends) (drawable : Drawable (tree-in (network n ends))) where
+  abbrev m : ℕ
+  m = length ends / 2
 
-  module _ {k : ℕ} {c d : List ℕ} {r : Answer} (l : Called n ends k c) (f : NextChoice n ends c r d) where
-    room : length ends / 2 ≤ length c
-    room = called-listed n ends l .1
+  abbrev Good : (ℕ → ℕ) → Type 0
+  Good = Proper (tree-in (network n ends))
 
-    proper : Proper (tree-in (network n ends)) (at c)
-    proper = listed-good (length ends / 2) (Proper (tree-in (network n ends))) (called-listed n ends l .0)
+  list : Listing m Good
+  list =
+      let some = some-proper (tree-in (network n ends)) (tree-searched (network n ends) (fit n ends a) (a .connected)) drawable in
+      listing-by-test m Good (properb (tree-in (network n ends))) (proper-of (tree-in (network n ends))) (proper-yes (tree-in (network n ends))) (proper-small (tree-in (network n ends)))
+      (proper-agree (tree-in (network n ends))) (some .0) (some .1)
 
-    at-last : Last (length ends / 2) (Proper (tree-in (network n ends))) (at c) → r ≡ refused 9
-    at-last e = next-last n ends a c room r d proper (λ o. e (o .0) (o .1) (o .2)) f .answers
+  last : ℕ
+  last = list .ends .0
 
-    at-nine : r .number ≡ 9 → Last (length ends / 2) (Proper (tree-in (network n ends))) (at c)
-    at-nine z e p o =
-        let x = next-outdone n ends a c room r d proper (e, p, o) f in
-        let w : r .number ≡ 0 = ap (λ (y : Answer). y .number) (x .answers) in
-        omega arith
+  highest : ℕ → ℕ
+  highest = list .ends .1
 
-    no-nine : (r .number ≡ 9 → ⊥) → Called n ends (suc k) d
-    no-nine w = go (next-says n ends a c room r d f)
-      where
-        go : check (Proper (tree-in (network n ends)) (at c)) (check (Outdone (tree-in (network n ends)) (at c)) (Stepped (network n ends) c r d) (Untouched c r d 9)) (Untouched c r d 8)
-            → Called n ends (suc k) d
-        go (inl (_, inl (_, x))) = went-on l f (ap (λ (y : Answer). y .number) (x .answers))
-        go (inl (_, inr (_, u))) = absurd (w (with-number (u .answers)))
-        go (inr (p, u)) = absurd (p proper)
+  highest-listed : Listed m Good last highest
+  unfolding last highest
+  highest-listed = list .ends .2
 
-  pub calls-list : Drawable (tree-in (network n ends)) → Lists n ends
-  calls-list drawable =
-      let S = tree-in (network n ends) in
-      let some = some-proper S (tree-searched (network n ends) (fit n ends a) (a .connected)) drawable in
-      let list = listing-by-test (length ends / 2) (Proper S) (properb S) (proper-of S) (proper-yes S) (proper-small S) (proper-agree S) (some .0) (some .1) in
-      record {
-        proper = λ l. listed-good (length ends / 2) (Proper S) (called-listed n ends l .0);
-        every = reached list;
-        once = λ p q e. listed-once (length ends / 2) (Proper S) e (called-listed n ends p .0) (called-listed n ends q .0);
-        rising = λ p q h. listed-rising (length ends / 2) (Proper S) (called-listed n ends p .0) (called-listed n ends q .0) h;
-        stops = stops list;
-        nine = λ l f. at-nine l f;
-        last = λ l f. at-last l f;
-        goes-on = λ l f. no-nine l f;
-      }
+  highest-last : Last m Good highest
+  unfolding highest
+  highest-last = list .ends .3
+
+  module _ {k : ℕ} {held : ℕ → List ℕ} (s : Steps n ends k held) where
+    listed : (j : ℕ) → j ≤ k → Listed m Good j (at (held j))
+    listed j h = steps-listed n ends s j h .0
+
+    proper : (j : ℕ) → j ≤ k → Good (at (held j))
+    proper j h = listed-good m Good (listed j h)
+
+    steps-bound : k ≤ last
+    steps-bound = listed-bound m Good highest-listed highest-last (listed k (omega arith))
+
+    module _ {d : List ℕ} {r : Answer} (f : NextChoice n ends (held k) r d) where
+      says-zero : k < last → r .number ≡ 0
+      says-zero h =
+          let o = listed-rising m Good (listed k (omega arith)) highest-listed h in
+          with-number (next-outdone n ends a (held k) (steps-listed n ends s k (omega arith) .1) r d (proper k (omega arith)) (highest, listed-good m Good highest-listed, o) f .answers)
+
+      says-nine : k ≡ last → r .number ≡ 9
+      says-nine e =
+          let h : Listed m Good k highest = rw e highest-listed in
+          let same = same-place m Good (listed k (omega arith)) h in
+          with-number (next-last n ends a (held k) (steps-listed n ends s k (omega arith) .1) r d (proper k (omega arith))
+          (λ o. highest-last (o .0) (o .1) (before-same m (at (held k)) highest (o .0) (o .0) same (λ b h. refl) (o .2))) f .answers)
+
+  module _ {k : ℕ} {held : ℕ → List ℕ} (run : Run n ends k held) where
+    run-length : k ≡ last
+    run-length =
+        cases (lt-or k last)
+        (λ h. absurd (let q = run .nine .1 in omega (arith, q .2, says-zero (run .steps) (q .1) h)))
+        (λ h. omega (arith, steps-bound (run .steps)))
+
+    complete : Complete n ends k held
+    complete =
+        record {
+          proper = proper (run .steps);
+          every = λ c p.
+              let q = list .every c p in
+              let h : q .0 ≤ k = omega (arith, run-length, listed-bound m Good highest-listed highest-last (q .1)) in
+              (q .0, h, same-place m Good (q .1) (listed (run .steps) (q .0) h));
+          once = λ i j h o e. listed-once m Good e (listed (run .steps) i h) (listed (run .steps) j o);
+          rising = λ i j h o. listed-rising m Good (listed (run .steps) i (omega arith)) (listed (run .steps) j o) h;
+        }
+
+    counter : (digit : ℕ → Bool) × (suc k ≡ 2 ^ count digit m) × ((j : ℕ) → j ≤ k → value digit (at (held j)) m ≡ j)
+    unfolding last
+    counter =
+        let S = tree-in (network n ends) in (
+          free m Good (turn-proper S) (parting-side S) list,
+          ap suc run-length ∙ power-of-two m Good (turn-proper S) (parting-side S) list,
+          λ j h. place-reads m Good (turn-proper S) (parting-side S) list (listed (run .steps) j h),
+        )
+
+  some-run : (held : ℕ → List ℕ) × Run n ends last held
+  some-run =
+      let at-step = along m Good highest-listed in (
+        λ j. buffer n ends a (at-step j),
+        record {
+          steps =
+              record {
+                begins = may-begin n ends a (at-step 0) (along-first m Good highest-listed);
+                goes-on = λ j h. may-go-on n ends a (at-step j) (at-step (suc j)) (good j (omega arith)) (along-next m Good highest-listed j h);
+              };
+          nine = (
+            buffer n ends a (at-step last),
+            may-end n ends a (at-step last) (good last (omega arith)) (rw (along-last m Good highest-listed) highest-last),
+          );
+        },
+      )
     where
-      stops : Listing (length ends / 2) (Proper (tree-in (network n ends))) → (k : ℕ) × (c : List ℕ) × Called n ends k c × ((r : Answer) (d : List ℕ) → NextChoice n ends c r d → r ≡ refused 9)
-      stops list =
-          let q = list .ends in
-          let base = replicate {A = ℕ} (length ends / 2) 0 in
-          let h : length ends / 2 ≤ length base = omega (arith, length-replicate {A = ℕ} (length ends / 2) 0) in
-          let l = listed-called n ends a base h (q .2) in
-          let same = laid-at n ends a base h (q .1) in
-          (q .0, laid n ends a base h (q .1), l, λ r d f. at-last l f (λ e p o. q .3 e p (before-same (length ends / 2) _ (q .1) e e (agree-sym (length ends / 2) (q .1) _ same) (λ b i. refl) o)))
+      good : (j : ℕ) → j ≤ last → Good (along m Good highest-listed j)
+      good j h = listed-good m Good (along-listed m Good highest-listed j h)
+
+  module _ {choice lines kinds c l k : List ℕ} {r : Answer} (bytes : m ≤ length choice) (ring : m ≤ length lines) (ring′ : m ≤ length kinds)
+      (f : FirstChoice n ends choice lines kinds r c l k) where
+    first-begins : r .number ≡ 0
+    first-begins = go (first-says n ends a choice lines kinds bytes ring ring′ r c l k f)
+      where
+        go : check (Drawable (tree-in (network n ends))) (Chosen (network n ends) choice lines kinds r c l k) (Ringed (network n ends) choice lines kinds r c l k) → r .number ≡ 0
+        go (inl (_, x)) = with-number (x .answers)
+        go (inr (e, x)) = absurd (e drawable)
+
+  pub calls-list : (k : ℕ) × Lists n ends k
+  calls-list = (
+    last,
+    record {
+      begins = λ h i j f. first-begins h i j f;
+      goes-on = λ s f h. says-zero s f h;
+      stops = λ s f. says-nine s f refl;
+      no-further = λ s. steps-bound s;
+      same = λ s t i h o. same-place m Good (listed s i h) (listed t i o);
+      some-run = some-run;
+      complete = λ run. (run-length run, complete run);
+    },
+  )
+
+-- In plain words
+
+module _ (n : ℕ) (ends : List ℕ) where
+  begun-lists : {k : ℕ} {held : ℕ → List ℕ} → Steps n ends k held → (last : ℕ) × Lists n ends last
+  begun-lists s = let q = first-zero n ends (s .begins .6) (s .begins .7) in calls-list n ends (q .0) (q .1)
+
+  -- Every run, from first choice to 9, holds every proper choice, each once, in rising order. (That it began says that the network is accepted and
+  -- has a legal choice.)
+  pub every-run-is-complete : (last : ℕ) (held : ℕ → List ℕ) → Run n ends last held → Complete n ends last held
+  every-run-is-complete last held run = begun-lists (run .steps) .1 .complete run .1
+
+  -- Two runs have the same length, and hold the same choice at the same step.
+  pub runs-agree : (j k : ℕ) (held held′ : ℕ → List ℕ) → Run n ends j held → Run n ends k held′
+      → (j ≡ k) × ((i : ℕ) → i ≤ j → Agree (length ends / 2) (at (held i)) (at (held′ i)))
+  runs-agree j k held held′ run run′ =
+      let lists = begun-lists (run .steps) .1 in
+      let alike : j ≡ k = lists .complete run .0 ∙ sym (lists .complete run′ .0) in
+      (alike, λ i h. lists .same (run .steps) (run′ .steps) i h (omega arith))
+
+  -- The number of choices is a power of two, and the step is that of a binary counter: some lines are its digits, the lowest line the heaviest, and
+  -- their sides are the number of the step.
+  pub binary-counter : (last : ℕ) (held : ℕ → List ℕ) → Run n ends last held
+      → (digit : ℕ → Bool) × (suc last ≡ 2 ^ count digit (length ends / 2)) × ((j : ℕ) → j ≤ last → value digit (at (held j)) (length ends / 2) ≡ j)
+  binary-counter last held run = let q = first-zero n ends (run .steps .begins .6) (run .steps .begins .7) in counter n ends (q .0) (q .1) run
+
+  -- The calls, asked again and again, make a run: they come to 9.
+  pub asked-until-nine : Accepted n ends → Drawable (tree-in (network n ends)) → (held : ℕ → List ℕ) → Asked n ends held → (last : ℕ) × Run n ends last held
+  asked-until-nine a drawable held asked =
+      let q = calls-list n ends a drawable in
+      let lists = q .1 in
+      let s = steps (q .0) lists (q .0) (omega arith) in
+      let f = asked .again (q .0) in
+      (q .0, record { steps = s; nine = (held (suc (q .0)), (f .0, f .1, lists .stops s (f .1))) })
+    where
+      steps : (last : ℕ) → Lists n ends last → (j : ℕ) → j ≤ last → Steps n ends j held
+      steps last lists zero h =
+          let f = asked .begins in
+          let z = lists .begins (asked .room .0) (asked .room .1) (asked .room .2) (f .3) in
+          record { begins = (asked .choice, asked .lines, asked .kinds, f .1, f .2, f .0, f .3, z); goes-on = λ i o. absurd (omega arith) }
+      steps last lists (suc j) h =
+          let s = steps last lists j (omega arith) in
+          let f = asked .again j in
+          record {
+            begins = s .begins;
+            goes-on = λ i o.
+                cases (lt-or i j) (s .goes-on i)
+                (λ g. let e : i ≡ j = omega arith in rw e (f .0, f .1, lists .goes-on s (f .1) h));
+          }

@@ -58,3 +58,6 @@ module _ (n : ℕ) (ends : List ℕ) (a : Accepted n ends) where
 
       pub next-by : Outdone (tree-in (network n ends)) (at choice) → Stepped (network n ends) choice r c → NextChoice n ends choice r c
       next-by d x = grant n ends a (cramped-next ends choice) (room-next n ends choice bytes) (Untouched choice r c) Next (inl (p, inl (d, x)))
+
+      pub next-nine-by : (Outdone (tree-in (network n ends)) (at choice) → ⊥) → Untouched choice r c 9 → NextChoice n ends choice r c
+      next-nine-by e x = grant n ends a (cramped-next ends choice) (room-next n ends choice bytes) (Untouched choice r c) Next (inl (p, inr (e, x)))

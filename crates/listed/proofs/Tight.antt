@@ -21,7 +21,7 @@ use Rattle.choice.specs.Choice.{Proper}
 use Rattle.choice.specs.Calls.{cramped-first, Chosen, Ringed, FirstChoice, cramped-next, Stepped, NextChoice}
 
 -- two buffers that were changed in their first n places, and are the same there
-pub kept-same : (n : ℕ) (old a b : List ℕ) → Kept n old a → Kept n old b → Agree n (at a) (at b) → a ≡ b
+kept-same : (n : ℕ) (old a b : List ℕ) → Kept n old a → Kept n old b → Agree n (at a) (at b) → a ≡ b
 kept-same n old a b p q e =
     ext-getD 0 a b (omega (arith, p .long, q .long))
     (λ i h. cases (lt-or i n) (λ l. e i l) (λ g. p .past i g ∙ sym (q .past i g)))

@@ -1,2 +1,2 @@
-// The list of choices: first choice and then next choice, until 9, hand back every aligned choice exactly once, in rising order. And their statements leave
-// no freedom but which ring is shown. Definitions in specs/, proofs in proofs/, and no code.
+// The list of choices: every run, from first choice through next choice to 9, holds every aligned choice exactly once, in rising order, and their number is a
+// power of two. And the statements of the two calls leave no freedom but which ring is shown. Definitions in specs/, proofs in proofs/, and no code.
