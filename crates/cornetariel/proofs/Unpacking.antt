@@ -1,6 +1,6 @@
 -- The number that packs an answer loses nothing: what is read out of it is that answer. So the call's statement holds of what C reads.
 use mathlib.Core.Path.{_≡_, sym, ap, _∙_}
-use Prim.Native.Nat.{ℕ, _+_, _*_, _/_, _%_, _<_}
+use Prim.Native.Nat.{ℕ, _+_, _*_, _/_, _%_}
 use native.Mathlib.Nat.{div-eq-of-lt-le}
 use native.Mathlib.Omega.{arith}
 use Rattle.network.specs.declared.Answer.{Answer}

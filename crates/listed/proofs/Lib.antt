@@ -5,3 +5,5 @@ pub mod Enumerating
 pub mod Listed
 pub mod OneChoice
 pub mod Moves
+pub mod Swapped
+pub mod SwappedCalls
