@@ -1,31 +1,28 @@
--- The number that packs an answer loses nothing: two answers with one number are the same; and where a call's statement allows one answer, it allows C one
--- number.
+-- The number that packs an answer loses nothing: what is read out of it is that answer. So the call's statement holds of what C reads.
 use mathlib.Core.Path.{_≡_, sym, ap, _∙_}
-use Prim.Native.Nat.{ℕ, suc, _+_, _*_, _≤_, _<_}
-use native.Mathlib.Nat.{mul-suc, mul-le-mul-left}
+use Prim.Native.Nat.{ℕ, _+_, _*_, _/_, _%_}
+use native.Mathlib.Nat.{div-eq-of-lt-le}
 use native.Mathlib.Omega.{arith}
-use Rattle.laws.proofs.Cases.{cases, lt-or}
 use Rattle.network.specs.declared.Answer.{Answer}
-use Rattle.cornetariel.specs.Face.{packed, Packed, Small}
+use Rattle.cornetariel.specs.Face.{packed, unpack, Packed, Small}
 
--- a number below d and a multiple of d, in one way only
-apart : (d a b x y : ℕ) → a < d → b < d → a + d * x ≡ b + d * y → x < y → ⊥
-apart d a b x y h k e l =
-    let z : d * suc x ≤ d * y = mul-le-mul-left d l in
-    omega (arith, z, mul-suc d x)
+pub unpacked : (a : Answer) → Small a → unpack (packed a) ≡ a
+unpacked a s =
+    let second : packed a / 4294967296 ≡ a .second = div-eq-of-lt-le 4294967296 (omega arith) (omega arith) in
+    let both : packed a / 256 ≡ a .count + 16777216 * a .second = div-eq-of-lt-le 256 (omega arith) (omega arith) in
+    let high : packed a / 256 / 16777216 ≡ a .second = div-eq-of-lt-le 16777216 (omega arith) (omega arith) in
+    let number : packed a % 256 ≡ a .number = omega arith in
+    let count : packed a / 256 % 16777216 ≡ a .count = omega arith in
+    rw (number, count, second)
 
-digit-once : (d a b x y : ℕ) → a < d → b < d → a + d * x ≡ b + d * y → (a ≡ b) × (x ≡ y)
-digit-once d a b x y h k e =
-    cases (lt-or x y) (λ l. absurd (apart d a b x y h k e l))
-    (λ l.
-    cases (lt-or y x) (λ m. absurd (apart d b a y x k h (sym e) m))
-    (λ m. let same : x ≡ y = omega arith in let e′ : a + d * y ≡ b + d * y = rw same at e in (omega (arith, e′), same)))
+-- every number packs what is read out of it
+packs-again : (r : ℕ) → packed (unpack r) ≡ r
+packs-again r = omega arith
 
-pub unpacked : (a b : Answer) → Small a → Small b → packed a ≡ packed b → a ≡ b
-unpacked a b p q e =
-    let one = digit-once 256 (a .number) (b .number) (a .count + 16777216 * a .second) (b .count + 16777216 * b .second) (p .number) (q .number) (omega (arith, e)) in
-    let two = digit-once 16777216 (a .count) (b .count) (a .second) (b .second) (p .count) (q .count) (one .1) in
-    rw (one .0, two .0, two .1)
+-- what C reads is an answer that the statement allows
+pub read-out : {says : Answer → Type 0} {r : ℕ} → Packed says r → says (unpack r)
+read-out p = rw (p .packs, unpacked (p .answer) (p .parts)) (p .allowed)
 
-pub packed-once : (says : Answer → Type 0) → ((a b : Answer) → says a → says b → a ≡ b) → (r s : ℕ) → Packed says r → Packed says s → r ≡ s
-packed-once says once r s p q = p .packs ∙ ap packed (once (p .answer) (q .answer) (p .allowed) (q .allowed)) ∙ sym (q .packs)
+-- one answer, one number
+pub one-number : (r s : ℕ) → unpack r ≡ unpack s → r ≡ s
+one-number r s e = sym (packs-again r) ∙ ap packed e ∙ packs-again s

@@ -1,14 +1,10 @@
 // The calls under one roof, for Rattle and for C.
 //
 // For C each call has its slices as a pointer and then a length, and returns its whole answer as one number: see include/cornetariel.h. Their
-// statements say that this number packs an answer that the call's own statement allows (specs/Face.antt).
+// statements say that this number packs an answer that the call's own statement allows with what is in the buffers (specs/Face.antt).
 ghost use mathlib.Core.Path.{_≡_};
 ghost use Prim.Native.Nat.{ℕ, _+_, _*_, _<_};
-ghost use Rattle.search.specs.Orient.{Orient};
-ghost use Rattle.choice.specs.Calls.{FirstChoice, NextChoice};
-ghost use Rattle.drawing.specs.Draw.{Draw};
-ghost use Rattle.text.specs.Calls.{Read, Write};
-ghost use Rattle.cornetariel.specs.Face.{packed, Packed, Small};
+ghost use Rattle.cornetariel.specs.Face.{packed, Small, OrientC, FirstC, NextC, DrawC, ReadC, WriteC};
 use network::Answer;
 
 #[no_mangle]
@@ -18,7 +14,7 @@ pub extern "C" fn cornetariel_orient(
     kinds: &mut [u8],
     heights: &mut [u16],
 ) -> u64
-    ensures { λ r. ⌜ Packed (λ a. Orient vertices (now (ends .entry)) (now (kinds .entry)) (now (heights .entry)) a (now (kinds .exit)) (now (heights .exit))) r ⌝ }
+    ensures { λ r. ⌜ OrientC vertices (now (ends .entry)) (now (kinds .entry)) (now (heights .entry)) r (now (kinds .exit)) (now (heights .exit)) ⌝ }
 {
     pack(search::orient(vertices, ends, kinds, heights))
 }
@@ -31,15 +27,15 @@ pub extern "C" fn cornetariel_first(
     ring: &mut [u16],
     kinds: &mut [u8],
 ) -> u64
-    ensures { λ r. ⌜ Packed (λ a. FirstChoice vertices (now (ends .entry)) (now (choice .entry)) (now (ring .entry)) (now (kinds .entry))
-        a (now (choice .exit)) (now (ring .exit)) (now (kinds .exit))) r ⌝ }
+    ensures { λ r. ⌜ FirstC vertices (now (ends .entry)) (now (choice .entry)) (now (ring .entry)) (now (kinds .entry))
+        r (now (choice .exit)) (now (ring .exit)) (now (kinds .exit)) ⌝ }
 {
     pack(choice::first(vertices, ends, choice, ring, kinds))
 }
 
 #[no_mangle]
 pub extern "C" fn cornetariel_next(vertices: usize, ends: &[u16], choice: &mut [u8]) -> u64
-    ensures { λ r. ⌜ Packed (λ a. NextChoice vertices (now (ends .entry)) (now (choice .entry)) a (now (choice .exit))) r ⌝ }
+    ensures { λ r. ⌜ NextC vertices (now (ends .entry)) (now (choice .entry)) r (now (choice .exit)) ⌝ }
 {
     pack(choice::next(vertices, ends, choice))
 }
@@ -53,22 +49,22 @@ pub extern "C" fn cornetariel_draw(
     mesh: &mut [u16],
     sizes: &mut [u16],
 ) -> u64
-    ensures { λ r. ⌜ Packed (λ a. Draw vertices (now (ends .entry)) (now (choice .entry)) (now (order .entry)) (now (mesh .entry)) (now (sizes .entry))
-        a (now (order .exit)) (now (mesh .exit)) (now (sizes .exit))) r ⌝ }
+    ensures { λ r. ⌜ DrawC vertices (now (ends .entry)) (now (choice .entry)) (now (order .entry)) (now (mesh .entry)) (now (sizes .entry))
+        r (now (order .exit)) (now (mesh .exit)) (now (sizes .exit)) ⌝ }
 {
     pack(drawing::draw(vertices, ends, choice, order, mesh, sizes))
 }
 
 #[no_mangle]
 pub extern "C" fn cornetariel_read(text: &[u8], ends: &mut [u16]) -> u64
-    ensures { λ r. ⌜ Packed (λ a. Read (now (text .entry)) (now (ends .entry)) a (now (ends .exit))) r ⌝ }
+    ensures { λ r. ⌜ ReadC (now (text .entry)) (now (ends .entry)) r (now (ends .exit)) ⌝ }
 {
     pack(text::read(text, ends))
 }
 
 #[no_mangle]
 pub extern "C" fn cornetariel_write(vertices: usize, ends: &[u16], text: &mut [u8]) -> u64
-    ensures { λ r. ⌜ Packed (λ a. Write vertices (now (ends .entry)) (now (text .entry)) a (now (text .exit))) r ⌝ }
+    ensures { λ r. ⌜ WriteC vertices (now (ends .entry)) (now (text .entry)) r (now (text .exit)) ⌝ }
 {
     pack(text::write(vertices, ends, text))
 }

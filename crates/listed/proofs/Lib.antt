@@ -7,3 +7,5 @@ pub mod Stepwise
 pub mod Listed
 pub mod OneChoice
 pub mod Moves
+pub mod Swapped
+pub mod SwappedCalls

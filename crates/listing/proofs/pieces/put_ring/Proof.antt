@@ -1,6 +1,6 @@
 -- `put_ring` goes over the steps: each adds its line.
 use Prim.Native.Nat.{_-_}
-use Rattle.listing.proofs.Putting.{Ringing, size-fits, size-small, ringing-none, line-in, kind-in, step-fits, ringing-step, ring-put, ring-long}
+use Rattle.listing.proofs.Putting.{Ringing, size-fits, size-small, ringing-none, line-in, step-fits, ringing-step, ring-put, ring-long}
 use borrow.Author.Needs.{needs}
 use Rattle.listing.proofs.pieces.put_ring.Statement.{statement}
 use Rattle.listing.proofs.pieces.put_ring.Tie as tie
