@@ -1,6 +1,7 @@
 pub mod Lists
 pub mod Choosing
 pub mod Ringing
+pub mod Rounds
 pub mod Claims
 pub mod Rows
 pub mod Table

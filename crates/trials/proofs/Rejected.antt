@@ -12,7 +12,7 @@ use Rattle.network.specs.declared.Answer.{Answer}
 use Rattle.search.specs.Machine.{free, lowest-free, take-line, leave, go, step, run, start, finished}
 use Rattle.groups.specs.Order.{at}
 use Rattle.choice.specs.Calls.{NextChoice}
-use Rattle.trials.specs.Trials.{ends-of, side-of, sides, written}
+use Rattle.trials.specs.Trials.{ends-of, side-named, sides, written}
 use Rattle.trials.specs.Answers.{OfFirst, OfDraw, bytes}
 use Rattle.trials.specs.Table.{K4, K5-without-9, K33}
 use Rattle.trials.proofs.Answers.{answered}
@@ -23,21 +23,21 @@ number-of e = ap (λ (r : Answer). r .number) e
 -- First choice
 
 -- 7 to all: not to a triangle
-pub not-seven-to-all : OfFirst 3 (ends-of ((0, 1) ∷ (1, 2) ∷ (2, 0) ∷ [])) (λ r choice′. r .number ≡ 7 → ⊥)
+pub not-seven-to-all : OfFirst 3 (ends-of ((0, 1) ∷ (1, 2) ∷ (2, 0) ∷ [])) (λ r old ring rings choice′ lines′ kinds′. r .number ≡ 7 → ⊥)
 not-seven-to-all choice lines kinds choice′ lines′ kinds′ r room x =
     let e = number-of (answered 2 .0 .0 choice lines kinds choice′ lines′ kinds′ r room x .0) in λ seven. omega arith
 
 -- never 7: not to K3,3
-pub not-never-seven : OfFirst 6 (ends-of K33) (λ r choice′. r .number ≡ 0 → ⊥)
+pub not-never-seven : OfFirst 6 (ends-of K33) (λ r old ring rings choice′ lines′ kinds′. r .number ≡ 0 → ⊥)
 not-never-seven choice lines kinds choice′ lines′ kinds′ r room x =
-    let e = answered 6 .0 choice lines kinds choice′ lines′ kinds′ r room x in λ zero. omega arith
+    let e = ap (λ (a : Answer). a .number) (answered 6 .0 choice lines kinds choice′ lines′ kinds′ r room x .0) in λ zero. omega arith
 
 -- all left: not to K5 without its last line, where line 6 is right
 line-six : at (bytes 5 (ends-of K5-without-9) "LLLLR") 6 ≡ 1
-unfolding written sides side-of count from both either finished start run step go take-line leave lowest-free free touches other
+unfolding written sides side-named count from both either finished start run step go take-line leave lowest-free free touches other
 line-six = refl
 
-pub not-all-left : OfFirst 5 (ends-of K5-without-9) (λ r choice′. at choice′ 6 ≡ 0 → ⊥)
+pub not-all-left : OfFirst 5 (ends-of K5-without-9) (λ r old ring rings choice′ lines′ kinds′. at choice′ 6 ≡ 0 → ⊥)
 not-all-left choice lines kinds choice′ lines′ kinds′ r room x =
     let e = answered 7 .1 .0 .0 choice lines kinds choice′ lines′ kinds′ r room x .1 6 (omega arith) in λ left. omega (arith, line-six)
 
@@ -45,7 +45,7 @@ not-all-left choice lines kinds choice′ lines′ kinds′ r room x =
 
 -- the lent choice unmoved: not LRL on K4, after which line 3 is right
 line-three : (at (bytes 4 (ends-of K4) "LRL") 3 ≡ 0) × (at (bytes 4 (ends-of K4) "RLR") 3 ≡ 1)
-unfolding written sides side-of count from both either finished start run step go take-line leave lowest-free free touches other
+unfolding written sides side-named count from both either finished start run step go take-line leave lowest-free free touches other
 line-three = (refl, refl)
 
 pub not-unmoved : (r : Answer) → NextChoice 4 (ends-of K4) (bytes 4 (ends-of K4) "LRL") r (bytes 4 (ends-of K4) "LRL") → ⊥

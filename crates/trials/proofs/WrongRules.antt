@@ -17,7 +17,7 @@ use Rattle.fork.specs.Ends.{high, more, top, highestb}
 use Rattle.fans.specs.Fan.{side-of as line-side, is-left, is-right, leaving, rank, nested, fan}
 use Rattle.clockwise.specs.Order.{discovered, incoming, beside, clockwise}
 use Rattle.meshes.specs.Meshes.{opposite, leave as leave-by, follow-in, turned, step as next-direction, mesh-count}
-use Rattle.trials.specs.Trials.{ends-of, side-of, sides, written, choice}
+use Rattle.trials.specs.Trials.{ends-of, side-named, sides, written, choice}
 use Rattle.trials.specs.Table.{K4, K4-by-pairs}
 
 -- At equal low, the lines with more heights first: K4, all left
@@ -34,7 +34,7 @@ more-first S v =
     reverse (keep (is-left (line-side S all-left)) nested-so) ++ keep (is-right (line-side S all-left)) nested-so
 
 pub more-first-differs : mesh-count (tree-in k4 .live) 6 (ends-of K4) (clockwise (tree-in k4) (more-first (tree-in k4)) all-left) ≡ 2
-unfolding both either least count from keep gather insert sort lowest-on touches other higher lower climb aboveb returnb returns low free lowest-free take-line leave go step run start finished high more top highestb line-side leaving rank nested fan discovered incoming beside clockwise opposite leave-by follow-in turned next-direction mesh-count side-of sides written
+unfolding both either least count from keep gather insert sort lowest-on touches other higher lower climb aboveb returnb returns low free lowest-free take-line leave go step run start finished high more top highestb line-side leaving rank nested fan discovered incoming beside clockwise opposite leave-by follow-in turned next-direction mesh-count side-named sides written
 more-first-differs = refl
 
 -- Of the lines that come in beside one line, those discovered before standing before: K4 by its pairs, lines 1 and 2 left and 4 right
@@ -56,5 +56,5 @@ unreversed S v =
     (fan S LLR v)
 
 pub unreversed-differs : mesh-count (tree-in pairs .live) 6 (ends-of K4-by-pairs) (unreversed (tree-in pairs)) ≡ 2
-unfolding both either least count from keep gather insert sort lowest-on touches other higher lower climb aboveb returnb returns low free lowest-free take-line leave go step run start finished high more top highestb line-side leaving rank nested fan discovered incoming beside clockwise opposite leave-by follow-in turned next-direction mesh-count side-of sides written
+unfolding both either least count from keep gather insert sort lowest-on touches other higher lower climb aboveb returnb returns low free lowest-free take-line leave go step run start finished high more top highestb line-side leaving rank nested fan discovered incoming beside clockwise opposite leave-by follow-in turned next-direction mesh-count side-named sides written
 unreversed-differs = refl
