@@ -3,7 +3,7 @@ use mathlib.Core.Bool.{Bool, true, false, not}
 use mathlib.Core.List.{List, [], _∷_, _++_, map, foldr}
 use mathlib.Core.Logic.{inl, inr, _≢_}
 use mathlib.Core.Path.{_≡_, refl, sym, ap, _∙_, subst}
-use Prim.Native.Nat.{ℕ, zero, suc, _+_, _*_, _-_, _/_, _≤_}
+use Prim.Native.Nat.{ℕ, zero, suc, _+_, _*_, _-_, _/_, _≤_, _<_}
 use Prim.Native.String.{String}
 use native.Mathlib.Omega.{arith}
 use lib.Dec.{eqb, ltb}
@@ -30,9 +30,9 @@ use Rattle.tree.specs.Returns.{backb}
 use Rattle.search.specs.Machine.{finished, tree-in}
 use Rattle.search.specs.Orient.{back-lines, cramped, Untouched as Unoriented, Oriented}
 use Rattle.search.proofs.Grows.{grown, line-kind}
-use Rattle.text.specs.Text.{room, text-of, vertices-in, lines-in, ends-in, has-form}
+use Rattle.text.specs.Text.{room, text-of, vertices-in, lines-in, ends-in}
 use Rattle.text.specs.Calls.{Read}
-use Rattle.text.proofs.TextBack.{length-ends-in}
+use Rattle.text.proofs.TextBack.{length-ends-in, vertices-again, ends-again, text-has-form}
 use Rattle.text.proofs.Accepted.{take-filled, not-odd, Kept as Unread, Took}
 use Rattle.fork.specs.Fork.{Aligned}
 use Rattle.groups.specs.Order.{at, Agree, First, Next, Last}
@@ -46,7 +46,7 @@ use Rattle.meshes.specs.Meshes.{mesh-list, size-list}
 use Rattle.drawing.specs.Draw.{clockwise-in, meshes-in, size-list-in, mesh-list-in, Balanced, cramped-draw, Undrawn, Drew, Draw}
 use Rattle.trials.specs.Trials.{Claim, back-lines-are, choices-are, next-is, none-after, not-aligned, must-agree, ring-is, mesh-count-is, sizes-are, meshes-are, clockwise-is, outer-is, hands-are, turn-is, Trial, trial, refused-by, granted, ends-of, written, directions, step-lines, step-kinds, Every, buffer, choice, Good, FollowedBy, AllChoices, OnlyRing, Draws, DrawsSo, True, Holds}
 use Rattle.trials.specs.Turning.{outer-mesh, hands, turnb}
-use Rattle.trials.specs.Answers.{OfFirst, OfDraw, FirstGives, NextGives, NextRefuses, NextLists, CallsList, FirstShows, DrawGives, Said, Refuses, Answered}
+use Rattle.trials.specs.Answers.{OfFirst, OfDraw, FirstGives, NextGives, NextRefuses, NextLists, CallsList, FirstShows, DrawGives, Says, Said, Refuses, Answered}
 use Rattle.trials.specs.Table.{trials}
 use Rattle.trials.proofs.Table.{all-hold}
 
@@ -114,22 +114,30 @@ module _ (n : ℕ) (ends : List ℕ) where
       (check (Balanced net choice) (Drew net choice order mesh sizes r order′ mesh′ sizes′) (Undrawn order mesh sizes r order′ mesh′ sizes′ 10))
       (Undrawn order mesh sizes r order′ mesh′ sizes′ 8)
 
-  -- What read checks of a text that has the form is what a call checks of the network that it says.
-  read-checked : (text buffer : List ℕ) (r : Answer) (buffer′ : List ℕ) → has-form text ≡ true → vertices-in text ≡ n → ends-in text ≡ ends
-      → ltb (length buffer) (2 * lines-in text) ≡ false → Read text buffer r buffer′ → Checked n ends false (Unread r buffer buffer′) (Took text buffer r buffer′)
-  read-checked text buffer r buffer′ form v e roomy x =
-      subst (λ (l : List ℕ). Checked n l false (Unread r buffer buffer′) (Took text buffer r buffer′)) e
-      (subst (λ (k : ℕ). Checked k (ends-in text) false (Unread r buffer buffer′) (Took text buffer r buffer′)) v (go x))
+  -- What read checks of a text that says a network is what the other calls check of the network.
+  read-checked : (text buffer : List ℕ) (r : Answer) (buffer′ : List ℕ) → Says n ends text → ltb (length buffer) (length ends) ≡ false → Read text buffer r buffer′
+      → Checked n ends false (Unread r buffer buffer′) (Took text buffer r buffer′)
+  read-checked text buffer r buffer′ says roomy x =
+      subst (λ (l : List ℕ). Checked n l false (Unread r buffer buffer′) (Took text buffer r buffer′)) (says .its-ends)
+      (subst (λ (k : ℕ). Checked k (ends-in text) false (Unread r buffer buffer′) (Took text buffer r buffer′)) (says .its-vertices) (go x))
     where
       long : length (ends-in text) ≡ 2 * lines-in text
       long = length-ends-in text
 
+      enough : ltb (length buffer) (2 * lines-in text) ≡ false
+      enough = ap (ltb (length buffer)) (sym long ∙ ap length (says .its-ends)) ∙ roomy
+
       go : Read text buffer r buffer′ → Checked (vertices-in text) (ends-in text) false (Unread r buffer buffer′) (Took text buffer r buffer′)
-      go (inl (t, a)) = true-false form t
+      go (inl (t, a)) = true-false (says .form) t
       go (inr (_, inl (t, a))) = inl (rw long t, a)
-      go (inr (_, inr (two, inl (t, a)))) = true-false t roomy
+      go (inr (_, inr (two, inl (t, a)))) = true-false t enough
       go (inr (_, inr (two, inr (three, y)))) =
           inr (λ t. two (rw long at t), inr (λ t. true-false t (either-no (not-odd (length (ends-in text)) (lines-in text) long) refl), y))
+
+  -- (there is such a text, where four digits hold each number: the one that is written)
+  pub text-says : (m : ℕ) → length ends ≡ 2 * m → m < 65536 → n < 65536 → ((i : ℕ) → i < length ends → getD ends i 0 < 65536) → Says n ends (text-of n ends)
+  text-says m even few small within =
+      record { form = text-has-form n m ends even few; its-vertices = vertices-again n m ends even few small; its-ends = ends-again n m ends even few within }
 
   -- A network that is refused
 
@@ -148,8 +156,8 @@ module _ (n : ℕ) (ends : List ℕ) where
           draw = λ choice order mesh sizes order′ mesh′ sizes′ r room x.
               refused-so (cramped-draw (length ends / 2) (length choice) (length order) (length mesh) (length sizes)) (Undrawn order mesh sizes r order′ mesh′ sizes′)
               (Drawn choice order mesh sizes r order′ mesh′ sizes′) room x .answers;
-          read = λ text buffer buffer′ r form v e roomy x.
-              refused-so false (Unread r buffer buffer′) (Took text buffer r buffer′) refl (read-checked text buffer r buffer′ form v e roomy x) .0;
+          read = λ text buffer buffer′ r says roomy x.
+              refused-so false (Unread r buffer buffer′) (Took text buffer r buffer′) refl (read-checked text buffer r buffer′ says roomy x) .0;
           write = λ text text′ r roomy x.
               refused-so (ltb (length text) (room (length ends / 2))) (λ j. (r ≡ refused j) × (text′ ≡ text))
               ((r ≡ done (room (length ends / 2)) 0) × (text′ ≡ filled (room (length ends / 2)) (text-of n ends) text)) roomy x .0;

@@ -14,7 +14,7 @@ use Rattle.network.specs.declared.Answer.{Answer}
 use Rattle.tree.specs.Tree.{back}
 use Rattle.search.specs.Machine.{tree-in}
 use Rattle.search.specs.Orient.{back-lines, cramped, Orient}
-use Rattle.text.specs.Text.{room, vertices-in, lines-in, ends-in, has-form}
+use Rattle.text.specs.Text.{room, vertices-in, ends-in, has-form}
 use Rattle.text.specs.Calls.{Read, Write}
 use Rattle.groups.specs.Order.{at, Agree}
 use Rattle.choice.specs.Calls.{cramped-first, FirstChoice, cramped-next, NextChoice}
@@ -44,11 +44,15 @@ module _ (n : ℕ) (ends : List ℕ) where
       (order mesh sizes order′ mesh′ sizes′ : List ℕ) (r : Answer) → cramped-draw (length ends / 2) (length choice) (length order) (length mesh) (length sizes) ≡ false
       → Draw n ends choice order mesh sizes r order′ mesh′ sizes′ → P r order mesh sizes order′ mesh′ sizes′
 
-  -- .. of what read answers to a text that says this network, and of what write answers.
+  -- A text has the form and says this network.
+  pub record Says (text : List ℕ) : Type 0 where
+    pub form : has-form text ≡ true
+    pub its-vertices : vertices-in text ≡ n
+    pub its-ends : ends-in text ≡ ends
+
+  -- .. of what read answers to such a text, and of what write answers.
   abbrev pub OfRead : (Answer → Type 0) → Type 0
-  OfRead P =
-      (text buffer buffer′ : List ℕ) (r : Answer) → has-form text ≡ true → vertices-in text ≡ n → ends-in text ≡ ends → ltb (length buffer) (2 * lines-in text) ≡ false
-      → Read text buffer r buffer′ → P r
+  OfRead P = (text buffer buffer′ : List ℕ) (r : Answer) → Says text → ltb (length buffer) (length ends) ≡ false → Read text buffer r buffer′ → P r
 
   abbrev pub OfWrite : (Answer → Type 0) → Type 0
   OfWrite P = (text text′ : List ℕ) (r : Answer) → ltb (length text) (room (length ends / 2)) ≡ false → Write n ends text r text′ → P r
