@@ -5,6 +5,8 @@ pub mod Rounds
 pub mod Claims
 pub mod Rows
 pub mod Table
+pub mod Refusing
+pub mod Granting
 pub mod Answers
 pub mod Rejected
 pub mod WrongRules

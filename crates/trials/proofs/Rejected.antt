@@ -8,7 +8,7 @@ use lib.ListN.{getD, length, take, List·getD-eq-default}
 use borrow.Author.Tests.{eqb-true, le-ltb}
 use Rattle.laws.specs.Tests.{both, either, any}
 use Rattle.laws.specs.Counting.{count, many}
-use Rattle.laws.specs.Lists.{from, keep}
+use Rattle.laws.specs.Lists.{from, keep, filled}
 use Rattle.laws.proofs.Cases.{cases, lt-or}
 use Rattle.laws.proofs.Tests.{both-of, all-of}
 use Rattle.network.specs.Network.{network, touches, other}
@@ -26,7 +26,8 @@ use Rattle.trials.specs.Trials.{ends-of, side-named, sides, written}
 use Rattle.trials.specs.Turning.{clockwise, along, hands, on-trip, round-trip, outer-mesh, encircles, turnb}
 use Rattle.trials.specs.Answers.{OfFirst, OfDraw, bytes}
 use Rattle.trials.specs.Table.{K4, K5-without-9, K33}
-use Rattle.trials.proofs.Answers.{text-says, answered}
+use Rattle.trials.proofs.Refusing.{text-says}
+use Rattle.trials.proofs.Answers.{answered}
 
 number-of : {r : Answer} {a b : ℕ} → r ≡ done a b → r .number ≡ 0
 number-of e = ap (λ (r : Answer). r .number) e
@@ -44,13 +45,13 @@ not-never-seven choice lines kinds choice′ lines′ kinds′ r room x =
     let e = ap (λ (a : Answer). a .number) (answered 6 .0 choice lines kinds choice′ lines′ kinds′ r room x .0) in λ zero. omega arith
 
 -- all left: not to K5 without its last line, where line 6 is right
-line-six : at (bytes 5 (ends-of K5-without-9) "LLLLR") 6 ≡ 1
+line-six : (old : List ℕ) → at (filled 9 (bytes 5 (ends-of K5-without-9) "LLLLR") old) 6 ≡ 1
 unfolding written sides side-named count from both either finished start run step go take-line leave lowest-free free touches other
-line-six = refl
+line-six old = refl
 
 pub not-all-left : OfFirst 5 (ends-of K5-without-9) (λ r old ring rings choice′ lines′ kinds′. at choice′ 6 ≡ 0 → ⊥)
 not-all-left choice lines kinds choice′ lines′ kinds′ r room x =
-    let e = answered 7 .1 .0 .0 choice lines kinds choice′ lines′ kinds′ r room x .1 6 (omega arith) in λ left. omega (arith, line-six)
+    let e = ap (λ (l : List ℕ). at l 6) (answered 7 .1 .0 .0 choice lines kinds choice′ lines′ kinds′ r room x .1) in λ left. omega (arith, line-six choice)
 
 -- Next choice
 

@@ -1,10 +1,10 @@
 -- All rings of a network, by a test: it goes from each line along the constraints, no line twice, and looks at every round that closes. So every ring
 -- is looked at, and where only one passes for a ring, it is the only one.
 use mathlib.Core.Bool.{Bool, true, false, not}
-use mathlib.Core.List.{List, [], _∷_, _++_, map}
+use mathlib.Core.List.{List, [], _∷_, map}
 use mathlib.Core.Logic.{_≢_}
 use mathlib.Core.Path.{_≡_, refl, sym, ap, _∙_, subst}
-use Prim.Native.Nat.{ℕ, zero, suc, _-_, _≤_, _<_}
+use Prim.Native.Nat.{ℕ, zero, suc, _-_, _<_}
 use native.Mathlib.Omega.{arith}
 use lib.Dec.{eqb}
 use lib.ListN.{length, length-map}
@@ -28,17 +28,17 @@ use Rattle.trials.proofs.Ringing.{within, kinds, constraint-yes}
 module _ (S : Tree) (test : List (ℕ × ℕ) → Bool) where
   -- From the first line some steps have led along constraints to b. Every round that comes of this with no line twice passes the test, where it
   -- closes; false where so many further steps do not see the end of all.
-  unfoldable pub ontob : ℕ → ℕ → List (ℕ × ℕ) → ℕ → Bool
-  ontob first zero steps b = false
-  ontob first (suc fuel) steps b =
+  unfoldable pub goes-onb : ℕ → ℕ → List (ℕ × ℕ) → ℕ → Bool
+  goes-onb first zero steps b = false
+  goes-onb first (suc fuel) steps b =
       all
       (λ k.
       both (either (not (constraintb S b first k)) (test ((b, k) ∷ steps)))
-      (all (λ c. either (not (both (constraintb S b c k) (eqb (many c (b ∷ step-lines steps)) 0))) (ontob first fuel ((b, k) ∷ steps) c)) (S .lines)))
+      (all (λ c. either (not (both (constraintb S b c k) (eqb (many c (b ∷ step-lines steps)) 0))) (goes-onb first fuel ((b, k) ∷ steps) c)) (S .lines)))
       2
 
   unfoldable pub roundsb : Bool
-  roundsb = all (λ b. ontob b (S .lines) [] b) (S .lines)
+  roundsb = all (λ b. goes-onb b (S .lines) [] b) (S .lines)
 
 -- The steps of a round before step i, the last first
 
@@ -69,9 +69,9 @@ backwards-is f line kind (suc n) i h =
 -- Every ring is looked at
 
 module _ (S : Tree) (test : List (ℕ × ℕ) → Bool) (n : ℕ) (line kind : ℕ → ℕ) (r : Ring (Constraint S) n line kind) where
-  further : (i fuel : ℕ) → suc i < n → ontob S test (line 0) fuel (so-far line kind i) (line i) ≡ true
-      → (left : ℕ) × (ontob S test (line 0) left (so-far line kind (suc i)) (line (suc i)) ≡ true)
-  unfolding ontob
+  further : (i fuel : ℕ) → suc i < n → goes-onb S test (line 0) fuel (so-far line kind i) (line i) ≡ true
+      → (left : ℕ) × (goes-onb S test (line 0) left (so-far line kind (suc i)) (line (suc i)) ≡ true)
+  unfolding goes-onb
   further i zero h t = true-false t refl
   further i (suc fuel) h t =
       let q = r .step i h in
@@ -82,15 +82,15 @@ module _ (S : Tree) (test : List (ℕ × ℕ) → Bool) (n : ℕ) (line kind : �
             (both-yes (constraint-yes S (line i) (line (suc i)) (kind i) q) (eq-eqb _ 0 new)),
       )
 
-  closes : (i fuel : ℕ) → suc i ≡ n → ontob S test (line 0) fuel (so-far line kind i) (line i) ≡ true → test (so-far line kind (suc i)) ≡ true
-  unfolding ontob
+  closes : (i fuel : ℕ) → suc i ≡ n → goes-onb S test (line 0) fuel (so-far line kind i) (line i) ≡ true → test (so-far line kind (suc i)) ≡ true
+  unfolding goes-onb
   closes i zero h t = true-false t refl
   closes i (suc fuel) h t =
       let q = r .close i h in
       let w = kinds S (line i) (line 0) (kind i) q in
       implies-of (both-of (all-of _ 2 t (kind i) (omega arith)) .0) (constraint-yes S (line i) (line 0) (kind i) q)
 
-  goes : roundsb S test ≡ true → (i : ℕ) → i < n → (fuel : ℕ) × (ontob S test (line 0) fuel (so-far line kind i) (line i) ≡ true)
+  goes : roundsb S test ≡ true → (i : ℕ) → i < n → (fuel : ℕ) × (goes-onb S test (line 0) fuel (so-far line kind i) (line i) ≡ true)
   unfolding roundsb
   goes t zero h =
       let two = two-of n line kind (r .shape) in

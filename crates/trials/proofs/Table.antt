@@ -24,12 +24,12 @@ use Rattle.trials.specs.Turning.{hands, on-trip, round-trip, outer-mesh,
 use Rattle.trials.specs.Tests.{agreeb, beforeb, not-later, scan, everyb, firstb, nextb, lastb, constraintb, roundb}
 use Rattle.trials.specs.Table.{trials}
 use Rattle.trials.proofs.Lists.{alike}
-use Rattle.trials.proofs.Rounds.{ontob, roundsb, these}
+use Rattle.trials.proofs.Rounds.{goes-onb, roundsb, these}
 use Rattle.trials.proofs.Claims.{each, fittingb, followedb, choicesb, drawsb, test}
 use Rattle.trials.proofs.Rows.{refusal, holdsb, all-hold-of}
 
 table-passes : each holdsb trials ≡ true
-unfolding both either all any least count many from keep gather insert sort lowest-on touches other joins oversize odd astray looped doubled mispaired higher lower climb aboveb returnb returns low free lowest-free take-line leave go step run start finished everyone lowestb high more top highestb forkb groupb sameb differentb levelb wherever legalb alignedb apartb oddb orderedb ringb line-side leaving rank nested fan discovered incoming beside clockwise opposite leave-by follow-in turned next-direction mesh-of mesh-count borders mesh-size mesh-list size-list side-named sides written directions hands on-trip round-trip outer-mesh encircles turnb alike agreeb beforeb properb scan everyb not-later firstb nextb lastb constraintb roundb ontob these roundsb each fittingb followedb choicesb drawsb test refusal holdsb
+unfolding both either all any least count many from keep gather insert sort lowest-on touches other joins oversize odd astray looped doubled mispaired higher lower climb aboveb returnb returns low free lowest-free take-line leave go step run start finished everyone lowestb high more top highestb forkb groupb sameb differentb levelb wherever legalb alignedb apartb oddb orderedb ringb line-side leaving rank nested fan discovered incoming beside clockwise opposite leave-by follow-in turned next-direction mesh-of mesh-count borders mesh-size mesh-list size-list side-named sides written directions hands on-trip round-trip outer-mesh encircles turnb alike agreeb beforeb properb scan everyb not-later firstb nextb lastb constraintb roundb goes-onb these roundsb each fittingb followedb choicesb drawsb test refusal holdsb
 table-passes = refl
 
 pub all-hold : Every Holds trials

@@ -16,7 +16,7 @@ use Rattle.search.specs.Machine.{tree-in}
 use Rattle.search.specs.Orient.{back-lines, cramped, Orient}
 use Rattle.text.specs.Text.{room, vertices-in, ends-in, has-form}
 use Rattle.text.specs.Calls.{Read, Write}
-use Rattle.groups.specs.Order.{at, Agree}
+use Rattle.groups.specs.Order.{at}
 use Rattle.choice.specs.Calls.{cramped-first, FirstChoice, cramped-next, NextChoice}
 use Rattle.drawing.specs.Draw.{cramped-draw, Draw}
 use Rattle.trials.specs.Trials.{Claim, back-lines-are, choices-are, next-is, none-after, not-aligned, must-agree, ring-is, mesh-count-is, sizes-are, meshes-are, clockwise-is, outer-is, hands-are, turn-is, Trial, trial, refused-by, granted, ends-of, directions, step-lines, step-kinds, Every, buffer}
@@ -66,7 +66,10 @@ module _ (n : ℕ) (ends : List ℕ) where
 
   -- First choice gives c; next choice, lent c, gives d; it refuses c by a number, and leaves it.
   abbrev pub FirstGives : String → Type 0
-  FirstGives c = OfFirst (λ r choice lines kinds choice′ lines′ kinds′. (r ≡ done (back-lines (network n ends)) 0) × Agree (length ends / 2) (at choice′) (at (bytes c)))
+  FirstGives c =
+      OfFirst
+      (λ r choice ring kinds choice′ ring′ kinds′.
+      (r ≡ done (back-lines (network n ends)) 0) × (choice′ ≡ filled lines (bytes c) choice) × (ring′ ≡ ring) × (kinds′ ≡ kinds))
 
   abbrev pub NextGives : String → String → Type 0
   NextGives c d = (choice′ : List ℕ) (r : Answer) → NextChoice n ends (bytes c) r choice′ → (r ≡ done (back-lines (network n ends)) 0) × (choice′ ≡ bytes d)
