@@ -22,8 +22,8 @@ use Rattle.fork.proofs.Rule.{level-of, aligned-level, aligned-yes}
 use Rattle.groups.specs.Order.{at}
 use Rattle.clockwise.specs.Order.{order-at, flat}
 use Rattle.meshes.specs.Meshes.{mesh-count, mesh-list, size-list}
-use Rattle.trials.specs.Trials.{Claim, back-lines-are, choices-are, next-is, none-after, not-aligned, must-agree, ring-is, mesh-count-is, sizes-are, meshes-are, clockwise-is, outer-is, hands-are, turn-is, written, directions, step-lines, step-kinds, Every, choice, Fitting, FollowedBy, AllChoices, Draws, True}
-use Rattle.trials.specs.Turning.{outer-mesh, hands, turnb}
+use Rattle.trials.specs.Trials.{Claim, back-lines-are, choices-are, next-is, none-after, not-aligned, must-agree, ring-is, mesh-count-is, sizes-are, meshes-are, clockwise-is, trips-are, written, directions, step-lines, step-kinds, Every, choice, Fitting, FollowedBy, AllChoices, Draws, True}
+use Rattle.trials.specs.Turning.{tripsb}
 use Rattle.trials.specs.Tests.{everyb, firstb, nextb, lastb, roundb}
 use Rattle.trials.proofs.Lists.{numbers, numbers-of, rows, rows-of}
 use Rattle.listed.proofs.Granted.{properb, proper-of}
@@ -83,10 +83,7 @@ module _ (net : Network) (s : State) where
   test (sizes-are c l) = drawsb c (numbers (size-list (grown .live) (net .lines) (net .ends) (order c)) l)
   test (meshes-are c l) = drawsb c (rows (directions (meshes c) (mesh-list (grown .live) (net .lines) (net .ends) (order c))) l)
   test (clockwise-is c l) = drawsb c (rows (map (order c) (upto (net .vertices))) l)
-  test (outer-is c k) = drawsb c (eqb (outer-mesh (net .ends) (flat (net .vertices) (order c)) (mesh-list (grown .live) (net .lines) (net .ends) (order c))) k)
-  test (hands-are c b l r) = drawsb c (numbers (hands grown (net .ends) b (mesh-list (grown .live) (net .lines) (net .ends) (order c))) (l ∷ r ∷ []))
-  test (turn-is c b way inside) =
-      drawsb c (turnb grown (net .ends) way b inside (flat (net .vertices) (order c)) (mesh-list (grown .live) (net .lines) (net .ends) (order c)))
+  test (trips-are c outer l) = drawsb c (tripsb grown (net .ends) outer l (flat (net .vertices) (order c)) (mesh-list (grown .live) (net .lines) (net .ends) (order c)))
 
 -- What they say
 
@@ -141,6 +138,4 @@ module _ (net : Network) where
   true-of (sizes-are c l) t = draws-of c _ _ (λ p. numbers-of _ l p) t
   true-of (meshes-are c l) t = draws-of c _ _ (λ p. rows-of _ l p) t
   true-of (clockwise-is c l) t = draws-of c _ _ (λ p. rows-of _ l p) t
-  true-of (outer-is c k) t = draws-of c _ _ (λ p. eqb-true _ k p) t
-  true-of (hands-are c b l r) t = draws-of c _ _ (λ p. numbers-of _ (l ∷ r ∷ []) p) t
-  true-of (turn-is c b way inside) t = draws-of c _ _ (λ p. p) t
+  true-of (trips-are c outer l) t = draws-of c _ _ (λ p. p) t

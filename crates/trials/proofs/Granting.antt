@@ -41,8 +41,8 @@ use Rattle.clockwise.proofs.Wholes.{drawn-whole}
 use Rattle.clockwise.proofs.Flat.{flat-full}
 use Rattle.meshes.specs.Meshes.{mesh-list, size-list}
 use Rattle.drawing.specs.Draw.{clockwise-in, meshes-in, size-list-in, mesh-list-in, cramped-draw, Undrawn, Drew, Draw}
-use Rattle.trials.specs.Trials.{Claim, back-lines-are, choices-are, next-is, none-after, not-aligned, must-agree, ring-is, mesh-count-is, sizes-are, meshes-are, clockwise-is, outer-is, hands-are, turn-is, written, directions, step-lines, step-kinds, buffer, choice, Good, FollowedBy, AllChoices, OnlyRing, Draws, DrawsSo, True}
-use Rattle.trials.specs.Turning.{outer-mesh, hands, turnb}
+use Rattle.trials.specs.Trials.{Claim, back-lines-are, choices-are, next-is, none-after, not-aligned, must-agree, ring-is, mesh-count-is, sizes-are, meshes-are, clockwise-is, trips-are, written, directions, step-lines, step-kinds, buffer, choice, Good, FollowedBy, AllChoices, OnlyRing, Draws, DrawsSo, True}
+use Rattle.trials.specs.Turning.{tripsb}
 use Rattle.trials.specs.Answers.{OfDraw, FirstGives, NextGives, NextRefuses, NextLists, CallsList, FirstShows, DrawGives, Said}
 use Rattle.trials.proofs.Refusing.{Firstly, Nextly, Drawn}
 
@@ -267,6 +267,4 @@ module _ (n : ℕ) (ends : List ℕ) where
     said-of (clockwise-is c l) q = λ order mesh sizes order′ mesh′ sizes′ r room x.
         drew c _ q order mesh sizes order′ mesh′ sizes′ r room x .the-order
         ∙ ap (λ (z : List ℕ). filled (2 * net .lines) z order) (gather-map (clockwise-in net (buffer net c)) (upto n) ∙ ap (foldr _++_ []) (q .so))
-    said-of (outer-is c k) q = draw-said c (λ order mesh. outer-mesh ends order mesh ≡ k) q
-    said-of (hands-are c b l r) q = draw-said c (λ order mesh. hands (tree-in net) ends b mesh ≡ l ∷ r ∷ []) q
-    said-of (turn-is c b way inside) q = draw-said c (λ order mesh. turnb (tree-in net) ends way b inside order mesh ≡ true) q
+    said-of (trips-are c outer l) q = draw-said c (λ order mesh. tripsb (tree-in net) ends outer l order mesh ≡ true) q

@@ -1,6 +1,6 @@
 -- Wrong programs, each held against one row of the table: what it would answer there, no statement allows. (Rows are counted from 0: P1 is row 0.)
 use mathlib.Core.Bool.{true}
-use mathlib.Core.List.{List, [], _∷_, map}
+use mathlib.Core.List.{List, [], _∷_}
 use mathlib.Core.Path.{_≡_, refl, sym, ap, _∙_, subst}
 use Prim.Native.Nat.{ℕ, _+_, _≤_, _<_}
 use native.Mathlib.Omega.{arith}
@@ -23,7 +23,7 @@ use Rattle.groups.specs.Order.{at}
 use Rattle.choice.specs.Calls.{NextChoice}
 use Rattle.meshes.specs.Meshes.{opposite, leave as leave-by}
 use Rattle.trials.specs.Trials.{ends-of, side-named, sides, written}
-use Rattle.trials.specs.Turning.{clockwise, along, hands, on-trip, round-trip, outer-mesh, encircles, turnb}
+use Rattle.trials.specs.Turning.{clockwise, trip, along, on-trip, round-trip, outer-mesh, encircles, walked, tripb, tripsb}
 use Rattle.trials.specs.Answers.{OfFirst, OfDraw, bytes}
 use Rattle.trials.specs.Table.{K4, K5-without-9, K33}
 use Rattle.trials.proofs.Refusing.{text-says}
@@ -109,7 +109,7 @@ outer-on-left mesh outer way inside d t h e less =
     let sum : many (getD mesh (opposite d) 0) inside + many d way ≡ many (getD mesh d 0) inside + many (opposite d) way = eqb-true _ _ (all-of _ (length mesh) (q .1) d h) in
     omega arith
 
--- left taken for clockwise: not on the triangle, whatever is said to be inside
+-- left taken for clockwise: not on the triangle, whatever is said to be on either hand and inside
 abbrev triangle : List ℕ
 triangle = ends-of ((0, 1) ∷ (1, 2) ∷ (2, 0) ∷ [])
 
@@ -117,19 +117,24 @@ abbrev up-line-2 : ℕ
 up-line-2 = opposite (along (tree-in (network 3 triangle)) triangle 2)
 
 abbrev walked-back : List ℕ
-walked-back = map opposite (round-trip (tree-in (network 3 triangle)) triangle 2)
+walked-back = walked clockwise (round-trip (tree-in (network 3 triangle)) triangle 2)
 
 taken : (many (opposite up-line-2) walked-back ≡ 0) × (many up-line-2 walked-back ≡ 1)
-unfolding round-trip on-trip opposite leave-by many from keep higher lower climb aboveb both either finished start run step go take-line leave lowest-free free touches other
+unfolding walked round-trip on-trip opposite leave-by many from keep higher lower climb aboveb both either finished start run step go take-line leave lowest-free free touches other
 taken = (refl, refl)
 
 pub left-not-clockwise : OfDraw 3 triangle (bytes 3 triangle "L")
-    (λ r order mesh sizes order′ mesh′ sizes′. (inside : List ℕ) → turnb (tree-in (network 3 triangle)) triangle clockwise 2 inside (take 6 order′) (take 6 mesh′) ≡ true → ⊥)
-unfolding turnb hands
-left-not-clockwise order mesh sizes order′ mesh′ sizes′ r room x inside t =
+    (λ r order mesh sizes order′ mesh′ sizes′.
+    (outer on-left on-right : ℕ) (inside : List ℕ)
+    → tripsb (tree-in (network 3 triangle)) triangle outer (trip 2 on-left on-right clockwise inside ∷ []) (take 6 order′) (take 6 mesh′) ≡ true → ⊥)
+unfolding tripsb tripb
+left-not-clockwise order mesh sizes order′ mesh′ sizes′ r room x outer on-left on-right inside t =
     let m = take 6 mesh′ in
-    let right-hand : getD m up-line-2 0 ≡ 1 = ap (λ (l : List ℕ). getD l 1 0) (answered 2 .1 .1 .1 .0 order mesh sizes order′ mesh′ sizes′ r room x) in
-    let outer = answered 2 .1 .1 .1 .1 .0 order mesh sizes order′ mesh′ sizes′ r room x in
-    outer-on-left m (outer-mesh triangle (take 6 order′) m) walked-back inside up-line-2 t
+    let row = both-of (answered 2 .1 .1 .1 .0 order mesh sizes order′ mesh′ sizes′ r room x) in
+    let right-hand : getD m up-line-2 0 ≡ 1 = eqb-true _ 1 (both-of (both-of (row .0) .0) .1) in
+    let is-outer : outer-mesh triangle (take 6 order′) m ≡ 1 = eqb-true _ 1 (row .1) in
+    let so = both-of t in
+    let outer-is : outer-mesh triangle (take 6 order′) m ≡ outer = eqb-true _ outer (so .1) in
+    outer-on-left m outer walked-back inside up-line-2 (both-of (so .0) .1)
     (cases (lt-or up-line-2 (length m)) (λ h. h) (λ h. absurd (omega (arith, List·getD-eq-default m 0 {n = up-line-2} h))))
-    (right-hand ∙ sym outer) (omega (arith, taken .0, taken .1))
+    (right-hand ∙ sym is-outer ∙ outer-is) (omega (arith, taken .0, taken .1))

@@ -20,7 +20,7 @@ use Rattle.clockwise.specs.Order.{discovered, incoming, beside, clockwise}
 use Rattle.meshes.specs.Meshes.{opposite, leave as leave-by, follow-in, turned, step as next-direction, mesh-of, mesh-count, borders, mesh-size, mesh-list, size-list}
 use Rattle.listed.proofs.Granted.{properb}
 use Rattle.trials.specs.Trials.{side-named, sides, written, directions, Every, Holds}
-use Rattle.trials.specs.Turning.{hands, on-trip, round-trip, outer-mesh, encircles, turnb}
+use Rattle.trials.specs.Turning.{on-trip, round-trip, outer-mesh, encircles, walked, tripb, tripsb}
 use Rattle.trials.specs.Tests.{agreeb, beforeb, not-later, scan, everyb, firstb, nextb, lastb, constraintb, roundb}
 use Rattle.trials.specs.Table.{trials}
 use Rattle.trials.proofs.Lists.{alike}
@@ -29,7 +29,7 @@ use Rattle.trials.proofs.Claims.{each, fittingb, followedb, choicesb, d
 use Rattle.trials.proofs.Rows.{refusal, holdsb, all-hold-of}
 
 table-passes : each holdsb trials ≡ true
-unfolding both either all any least count many from keep gather insert sort lowest-on touches other joins oversize odd astray looped doubled mispaired higher lower climb aboveb returnb returns low free lowest-free take-line leave go step run start finished everyone lowestb high more top highestb forkb groupb sameb differentb levelb wherever legalb alignedb apartb oddb orderedb ringb line-side leaving rank nested fan discovered incoming beside clockwise opposite leave-by follow-in turned next-direction mesh-of mesh-count borders mesh-size mesh-list size-list side-named sides written directions hands on-trip round-trip outer-mesh encircles turnb alike agreeb beforeb properb scan everyb not-later firstb nextb lastb constraintb roundb goes-onb these roundsb each fittingb followedb choicesb drawsb test refusal holdsb
+unfolding both either all any least count many from keep gather insert sort lowest-on touches other joins oversize odd astray looped doubled mispaired higher lower climb aboveb returnb returns low free lowest-free take-line leave go step run start finished everyone lowestb high more top highestb forkb groupb sameb differentb levelb wherever legalb alignedb apartb oddb orderedb ringb line-side leaving rank nested fan discovered incoming beside clockwise opposite leave-by follow-in turned next-direction mesh-of mesh-count borders mesh-size mesh-list size-list side-named sides written directions on-trip round-trip outer-mesh encircles walked tripb tripsb alike agreeb beforeb properb scan everyb not-later firstb nextb lastb constraintb roundb goes-onb these roundsb each fittingb followedb choicesb drawsb test refusal holdsb
 table-passes = refl
 
 pub all-hold : Every Holds trials

@@ -19,8 +19,8 @@ use Rattle.text.specs.Calls.{Read, Write}
 use Rattle.groups.specs.Order.{at}
 use Rattle.choice.specs.Calls.{cramped-first, FirstChoice, cramped-next, NextChoice}
 use Rattle.drawing.specs.Draw.{cramped-draw, Draw}
-use Rattle.trials.specs.Trials.{Claim, back-lines-are, choices-are, next-is, none-after, not-aligned, must-agree, ring-is, mesh-count-is, sizes-are, meshes-are, clockwise-is, outer-is, hands-are, turn-is, Trial, trial, refused-by, granted, ends-of, directions, step-lines, step-kinds, Every, buffer}
-use Rattle.trials.specs.Turning.{outer-mesh, hands, turnb}
+use Rattle.trials.specs.Trials.{Claim, back-lines-are, choices-are, next-is, none-after, not-aligned, must-agree, ring-is, mesh-count-is, sizes-are, meshes-are, clockwise-is, trips-are, Trial, trial, refused-by, granted, ends-of, directions, step-lines, step-kinds, Every, buffer}
+use Rattle.trials.specs.Turning.{tripsb}
 
 module _ (n : ℕ) (ends : List ℕ) where
   -- Given room, P is so of what orient answers, of what the buffer of kinds held, and of what it leaves there.
@@ -114,9 +114,7 @@ module _ (n : ℕ) (ends : List ℕ) where
   Said (sizes-are c l) = OfDraw (bytes c) (λ r order mesh sizes order′ mesh′ sizes′. sizes′ ≡ filled (length l) l sizes)
   Said (meshes-are c l) = OfDraw (bytes c) (λ r order mesh sizes order′ mesh′ sizes′. directions (r .count) (take (2 * lines) mesh′) ≡ l)
   Said (clockwise-is c l) = OfDraw (bytes c) (λ r order mesh sizes order′ mesh′ sizes′. order′ ≡ filled (2 * lines) (foldr _++_ [] l) order)
-  Said (outer-is c k) = DrawGives c (λ order mesh. outer-mesh ends order mesh ≡ k)
-  Said (hands-are c b l r) = DrawGives c (λ order mesh. hands (tree-in (network n ends)) ends b mesh ≡ l ∷ r ∷ [])
-  Said (turn-is c b way inside) = DrawGives c (λ order mesh. turnb (tree-in (network n ends)) ends way b inside order mesh ≡ true)
+  Said (trips-are c outer l) = DrawGives c (λ order mesh. tripsb (tree-in (network n ends)) ends outer l order mesh ≡ true)
 
   -- Every call, given room, refuses the network by the number.
   pub record Refuses (k : ℕ) : Type 0 where

@@ -2,8 +2,8 @@
 use mathlib.Core.List.{List, [], _∷_}
 use Prim.Native.Nat.{ℕ}
 use Rattle.groups.specs.Constraints.{same, different}
-use Rattle.trials.specs.Trials.{Trial, trial, refused-by, granted, back-lines-are, choices-are, next-is, none-after, not-aligned, must-agree, ring-is, mesh-count-is, sizes-are, meshes-are, clockwise-is, outer-is, hands-are, turn-is}
-use Rattle.trials.specs.Turning.{anticlockwise, clockwise}
+use Rattle.trials.specs.Trials.{Trial, trial, refused-by, granted, back-lines-are, choices-are, next-is, none-after, not-aligned, must-agree, ring-is, mesh-count-is, sizes-are, meshes-are, clockwise-is, trips-are}
+use Rattle.trials.specs.Turning.{anticlockwise, clockwise, trip}
 
 -- Four vertices, all joined to each other.
 abbrev pub K4 : List (ℕ × ℕ)
@@ -28,8 +28,8 @@ P1 = trial 1 [] (granted (choices-are ("" ∷ []) ∷ mesh-count-is "" 1 ∷ siz
 abbrev pub P2 : Trial
 P2 = trial 2 ((0, 1) ∷ []) (granted (choices-are ("" ∷ []) ∷ mesh-count-is "" 1 ∷ sizes-are "" (1 ∷ []) ∷ []))
 
--- A triangle: two choices, and two meshes by either, the same two. Walked down, line 2 has mesh 0 on its left hand and mesh 1 on its right. By L the
--- outer one is mesh 1, so its round trip turns anticlockwise; by R the outer one is mesh 0, and it turns clockwise.
+-- A triangle: two choices, and two meshes by either, the same two. Walked down, line 2 has mesh 0 on its left hand and mesh 1 on its right. By L mesh 1
+-- is the outer one, so the line's round trip turns anticlockwise; by R mesh 0 is, and it turns clockwise.
 abbrev pub P3 : Trial
 P3 =
     trial 3 ((0, 1) ∷ (1, 2) ∷ (2, 0) ∷ [])
@@ -37,33 +37,23 @@ P3 =
     (choices-are ("L" ∷ "R" ∷ [])
     ∷ mesh-count-is "L" 2
     ∷ mesh-count-is "R" 2
-    ∷ hands-are "L" 2 0 1
-    ∷ outer-is "L" 1
-    ∷ turn-is "L" 2 anticlockwise (0 ∷ [])
-    ∷ hands-are "R" 2 0 1
-    ∷ outer-is "R" 0
-    ∷ turn-is "R" 2 clockwise (1 ∷ [])
+    ∷ trips-are "L" 1 (trip 2 0 1 anticlockwise (0 ∷ []) ∷ [])
+    ∷ trips-are "R" 0 (trip 2 0 1 clockwise (1 ∷ []) ∷ [])
     ∷ []))
 
 -- K4: its back lines and its choices.
 abbrev pub P4 : Trial
 P4 = trial 4 K4 (granted (back-lines-are (3 ∷ 4 ∷ 5 ∷ []) ∷ choices-are ("LLL" ∷ "LRL" ∷ "RLR" ∷ "RRR" ∷ []) ∷ []))
 
--- K4, all left: the order at each vertex, and the directions on each mesh. Every back line turns anticlockwise: the meshes on its left hand are inside,
--- those on its right hand outside, and so is the outer one.
+-- K4, all left: the order at each vertex, and the directions on each mesh. The round trip of every back line
+-- turns anticlockwise: what is on the left hand of its directions is inside, what is on their right hand is outside, and so is the outer mesh.
 abbrev pub P5 : Trial
 P5 =
     trial 4 K4
     (granted
     (clockwise-is "LLL" ((5 ∷ 3 ∷ 0 ∷ []) ∷ (0 ∷ 4 ∷ 1 ∷ []) ∷ (1 ∷ 2 ∷ 5 ∷ []) ∷ (2 ∷ 4 ∷ 3 ∷ []) ∷ [])
     ∷ meshes-are "LLL" ((0 ∷ 6 ∷ 9 ∷ []) ∷ (1 ∷ 3 ∷ 11 ∷ []) ∷ (2 ∷ 4 ∷ 8 ∷ []) ∷ (5 ∷ 7 ∷ 10 ∷ []) ∷ [])
-    ∷ outer-is "LLL" 1
-    ∷ hands-are "LLL" 3 0 3
-    ∷ turn-is "LLL" 3 anticlockwise (0 ∷ 2 ∷ [])
-    ∷ hands-are "LLL" 4 2 0
-    ∷ turn-is "LLL" 4 anticlockwise (2 ∷ [])
-    ∷ hands-are "LLL" 5 3 1
-    ∷ turn-is "LLL" 5 anticlockwise (0 ∷ 2 ∷ 3 ∷ [])
+    ∷ trips-are "LLL" 1 (trip 3 0 3 anticlockwise (0 ∷ 2 ∷ []) ∷ trip 4 2 0 anticlockwise (2 ∷ []) ∷ trip 5 3 1 anticlockwise (0 ∷ 2 ∷ 3 ∷ []) ∷ [])
     ∷ []))
 
 -- K5: 7, and its only ring, of three lines.

@@ -23,7 +23,7 @@ use Rattle.groups.specs.Constraints.{Ring}
 use Rattle.choice.specs.Choice.{Drawable, Proper}
 use Rattle.clockwise.specs.Order.{flat}
 use Rattle.drawing.specs.Draw.{clockwise-in, meshes-in, mesh-list-in, size-list-in, Balanced}
-use Rattle.trials.specs.Turning.{WayRound, outer-mesh, hands, turnb}
+use Rattle.trials.specs.Turning.{Trip, tripsb}
 
 -- What may be claimed of a well-formed network. A choice is given as a word, a letter L or R for each back line, the lowest line first; a ring as
 -- its steps, a line and a kind each.
@@ -47,11 +47,8 @@ pub data Claim : Type 0 where
   sizes-are : String → List ℕ → Claim
   meshes-are : String → List (List ℕ) → Claim
   clockwise-is : String → List (List ℕ) → Claim
-  -- .. and in it: which mesh is the outer one; which ones are on the left hand and on the right hand of a back line that is walked down; which way the
-  -- round trip of a back line turns, and which meshes are inside.
-  outer-is : String → ℕ → Claim
-  hands-are : String → ℕ → ℕ → ℕ → Claim
-  turn-is : String → ℕ → WayRound → List ℕ → Claim
+  -- .. and in it which mesh is the outer one, and how the round trips of back lines turn.
+  trips-are : String → ℕ → List Trip → Claim
 
 -- The checks refuse a network by a number, or they grant it, and then so much is claimed.
 pub data Verdict : Type 0 where
@@ -150,9 +147,7 @@ module _ (net : Network) where
   True (sizes-are c l) = Draws c (size-list-in net (buffer c) ≡ l)
   True (meshes-are c l) = Draws c (directions (meshes-in net (buffer c)) (mesh-list-in net (buffer c)) ≡ l)
   True (clockwise-is c l) = Draws c (map (clockwise-in net (buffer c)) (upto (net .vertices)) ≡ l)
-  True (outer-is c k) = DrawsSo c (λ order mesh. outer-mesh (net .ends) order mesh ≡ k)
-  True (hands-are c b l r) = DrawsSo c (λ order mesh. hands (tree-in net) (net .ends) b mesh ≡ l ∷ r ∷ [])
-  True (turn-is c b way inside) = DrawsSo c (λ order mesh. turnb (tree-in net) (net .ends) way b inside order mesh ≡ true)
+  True (trips-are c outer l) = DrawsSo c (λ order mesh. tripsb (tree-in net) (net .ends) outer l order mesh ≡ true)
 
 -- When a trial holds: lent all the room that they ask for, the checks refuse the network by that number and grant nothing, or they refuse it by none
 -- and each claim is true.

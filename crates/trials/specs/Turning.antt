@@ -16,13 +16,14 @@ pub data WayRound : Type 0 where
   anticlockwise : WayRound
   clockwise : WayRound
 
+-- What may be said of the round trip of a back line: the line; the meshes on its left hand and on its right hand, where it is walked down; which way the
+-- trip turns; and the meshes inside.
+pub data Trip : Type 0 where
+  trip : ℕ → ℕ → ℕ → WayRound → List ℕ → Trip
+
 -- A line as the search takes it: a tree line up, a back line down.
 abbrev pub along : Tree → List ℕ → ℕ → ℕ
 along S ends e = leave ends (S .source e) e
-
--- The meshes on the left hand and on the right hand of a line so taken.
-unfoldable pub hands : Tree → List ℕ → ℕ → List ℕ → List ℕ
-hands S ends e mesh = getD mesh (along S ends e) 0 ∷ getD mesh (opposite (along S ends e)) 0 ∷ []
 
 -- The round trip of a back line b, as its directions: down b, and up each tree line from the end of b to its start. (By line numbers; the trip itself
 -- goes through them in another order.)
@@ -45,8 +46,17 @@ encircles mesh outer way inside =
     both (eqb (many outer inside) 0)
     (all (λ d. eqb (many (getD mesh (opposite d) 0) inside + many d way) (many (getD mesh d 0) inside + many (opposite d) way)) (length mesh))
 
--- By the order and the mesh of each direction: the round trip of b turns that way, with these meshes inside. (What goes round something clockwise goes
--- round it anticlockwise when walked back.)
-unfoldable pub turnb : Tree → List ℕ → WayRound → ℕ → List ℕ → List ℕ → List ℕ → Bool
-turnb S ends anticlockwise b inside order mesh = encircles mesh (outer-mesh ends order mesh) (round-trip S ends b) inside
-turnb S ends clockwise b inside order mesh = encircles mesh (outer-mesh ends order mesh) (map opposite (round-trip S ends b)) inside
+-- What goes round something clockwise goes round it anticlockwise when walked back.
+unfoldable pub walked : WayRound → List ℕ → List ℕ
+walked anticlockwise way = way
+walked clockwise way = map opposite way
+
+-- By an order and the mesh of each direction: this is the outer mesh, and the round trips are as they are said to be.
+unfoldable pub tripb : Tree → List ℕ → ℕ → List ℕ → Trip → Bool
+tripb S ends outer mesh (trip b on-left on-right way inside) =
+    both (both (eqb (getD mesh (along S ends b) 0) on-left) (eqb (getD mesh (opposite (along S ends b)) 0) on-right))
+    (encircles mesh outer (walked way (round-trip S ends b)) inside)
+
+unfoldable pub tripsb : Tree → List ℕ → ℕ → List Trip → List ℕ → List ℕ → Bool
+tripsb S ends outer [] order mesh = eqb (outer-mesh ends order mesh) outer
+tripsb S ends outer (t ∷ trips) order mesh = both (tripb S ends outer mesh t) (tripsb S ends outer trips order mesh)
