@@ -4,21 +4,20 @@ use mathlib.Core.Bool.{Bool, true, false, not}
 use mathlib.Core.List.{List, [], _∷_, _++_, map, foldr}
 use mathlib.Core.Logic.{inl, inr, _≢_}
 use mathlib.Core.Path.{_≡_, refl, sym, ap, _∙_, subst}
-use Prim.Native.Nat.{ℕ, _+_, _*_, _-_, _/_, _≤_}
+use Prim.Native.Nat.{ℕ, _+_, _*_, _-_, _/_, _≤_, _<_}
 use Prim.Native.String.{String}
 use native.Mathlib.Omega.{arith}
 use lib.Dec.{eqb, ltb}
 use lib.ListN.{getD, length, take, drop, length-map, List·getD-append}
-use lib.Seq.{ext-getD, getD-append-add, getD-drop, take-all}
+use lib.Seq.{ext-getD, getD-append-add, getD-drop, getD-take, length-take-le, take-all}
 use borrow.Author.Tests.{le-ltb, lt-ltb, ltb-false, ne-eqb}
 use Rattle.laws.specs.Tests.{both}
 use Rattle.laws.specs.Lists.{upto, filled}
 use Rattle.laws.specs.Sorting.{gather}
 use Rattle.laws.proofs.Cases.{cases, eq-or, lt-or}
 use Rattle.laws.proofs.Filling.{filled-long}
-use Rattle.laws.proofs.Keeping.{all-true}
 use Rattle.laws.proofs.Lengths.{length-from}
-use Rattle.laws.proofs.Lists.{keep-same}
+use Rattle.laws.proofs.Lists.{all-map, keep-same, from-all}
 use Rattle.laws.proofs.Tests.{either-neither}
 use Rattle.network.specs.Network.{Network, network, Connected}
 use Rattle.network.specs.Inside.{Fit}
@@ -29,6 +28,7 @@ use Rattle.tree.specs.Tree.{Tree, tree, back}
 use Rattle.tree.specs.Returns.{backb}
 use Rattle.search.specs.Machine.{finished, tree-in}
 use Rattle.search.specs.Orient.{back-lines, cramped, Untouched as Unoriented, Oriented}
+use Rattle.search.proofs.Deep.{finished-both}
 use Rattle.search.proofs.Grows.{grown, line-kind}
 use Rattle.text.proofs.Accepted.{take-filled}
 use Rattle.fork.specs.Fork.{Aligned}
@@ -234,16 +234,25 @@ module _ (n : ℕ) (ends : List ℕ) where
         let is : take (2 * net .lines) mesh′ ≡ each = ap (take (2 * net .lines)) (y .each-mesh) ∙ take-filled (2 * net .lines) each mesh (meshes-long net (buffer net c)) in
         subst (λ (l : List ℕ). P l (take (2 * net .lines) mesh′)) (sym so) (subst (λ (l : List ℕ). P all l) (sym is) (q .so))
 
+    -- orient
+
+    kind-at : (kinds : List ℕ) (k : ℕ) → k < net .lines → at (filled (net .lines) (finished net .kind) kinds) k ≡ at (finished net .kind) k
+    kind-at kinds k h =
+        let few = fit .0 .few-lines in
+        let long = finished-both net (fit .0) .0 .kinds-long in
+        List·getD-append (take (net .lines) (finished net .kind)) (drop (net .lines) kinds) 0 k (omega (arith, length-take-le (net .lines) (finished net .kind) (omega arith)))
+        ∙ getD-take (net .lines) (finished net .kind) k 0 h
+
     -- each claim
 
     pub said-of : (claim : Claim) → True net claim → Said n ends claim
     said-of (back-lines-are l) q = λ kinds heights kinds′ heights′ r room x.
         let y = granted-so (cramped n ends kinds heights) (Unoriented kinds heights r kinds′ heights′) (Oriented net kinds heights r kinds′ heights′) room x in (
           y .answers ∙ ap (λ (k : ℕ). done k 0) (q .1),
-          finished net .kind,
-          y .each-kind,
-          keep-same (λ k. eqb (at (finished net .kind) k) back) (backb (tree-in net)) (upto (net .lines))
-              (all-true (λ k. eqb (at (finished net .kind) k) back ≡ backb (tree-in net) k) (upto (net .lines)) (λ k. back-kind (at (finished net .kind) k)))
+          keep-same (λ k. eqb (at kinds′ k) back) (backb (tree-in net)) (upto (net .lines))
+              (all-map (λ k. k < 0 + net .lines) (λ k. eqb (at kinds′ k) back ≡ backb (tree-in net) k) (upto (net .lines))
+              (λ k h. ap (λ (l : List ℕ). eqb (at l k) back) (y .each-kind) ∙ ap (λ (j : ℕ). eqb j back) (kind-at kinds k (omega arith)) ∙ back-kind (at (finished net .kind) k))
+              (from-all 0 (net .lines)))
               ∙ q .0,
         )
     said-of (choices-are l) q = choices-said l (q .1)

@@ -102,8 +102,7 @@ module _ (n : ℕ) (ends : List ℕ) where
 
   -- What a claim comes to. (That two lines must agree is no call's answer.)
   abbrev pub Said : Claim → Type 0
-  Said (back-lines-are l) =
-      OfOrient (λ r kinds kinds′. (r ≡ done (length l) 0) × (table : List ℕ) × (kinds′ ≡ filled lines table kinds) × (keep (λ k. eqb (at table k) back) (upto lines) ≡ l))
+  Said (back-lines-are l) = OfOrient (λ r kinds kinds′. (r ≡ done (length l) 0) × (keep (λ k. eqb (at kinds′ k) back) (upto lines) ≡ l))
   Said (choices-are l) = CallsList l
   Said (next-is c d) = NextGives c d
   Said (none-after c) = NextRefuses 9 c
