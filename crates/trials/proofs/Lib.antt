@@ -10,3 +10,4 @@ pub mod Granting
 pub mod Answers
 pub mod Rejected
 pub mod WrongRules
+pub mod WrongRows
