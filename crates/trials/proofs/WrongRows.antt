@@ -1,5 +1,5 @@
 -- Rows that would be wrong: what each claims is not true. The test of its claim is computed and fails, and a claim that is true passes its test.
-use mathlib.Core.Bool.{true, false}
+use mathlib.Core.Bool.{false}
 use mathlib.Core.List.{List, [], _∷_}
 use mathlib.Core.Path.{_≡_, refl, ap}
 use Prim.Native.Nat.{ℕ}
