@@ -20,13 +20,16 @@ use Rattle.search.specs.Machine.{State, finished, tree-in}
 use Rattle.search.specs.Orient.{back-lines}
 use Rattle.fork.specs.Fork.{levelb, alignedb}
 use Rattle.fork.proofs.Rule.{level-of, aligned-level, aligned-yes}
-use Rattle.clockwise.specs.Order.{order-at}
+use Rattle.clockwise.specs.Order.{order-at, flat}
 use Rattle.meshes.specs.Meshes.{mesh-count, mesh-list, size-list}
-use Rattle.trials.specs.Trials.{Claim, back-lines-are, choices-are, next-is, none-after, not-aligned, must-agree, ring-is, mesh-count-is, sizes-are, meshes-are, clockwise-is, written, directions, Every, choice, Fitting, ChoicesAfter, Choices, Draws, True}
+use Rattle.trials.specs.Trials.{Claim, back-lines-are, choices-are, next-is, none-after, not-aligned, must-agree, ring-is, mesh-count-is, sizes-are, meshes-are, clockwise-is, trips-are, written, directions, step-lines, step-kinds, Every, choice, Fitting, FollowedBy, AllChoices, Draws, True}
+use Rattle.trials.specs.Turning.{tripsb}
+use Rattle.trials.specs.Tests.{everyb, firstb, nextb, lastb, roundb}
 use Rattle.trials.proofs.Lists.{numbers, numbers-of, rows, rows-of}
 use Rattle.listed.proofs.Granted.{properb, proper-of}
-use Rattle.trials.proofs.Choosing.{everyb, firstb, first-of, nextb, next-of, lastb, last-of, none-of}
-use Rattle.trials.proofs.Ringing.{roundb, round-of, none-legal}
+use Rattle.trials.proofs.Choosing.{first-of, next-of, last-of, none-of}
+use Rattle.trials.proofs.Ringing.{round-of, none-legal}
+use Rattle.trials.proofs.Rounds.{these, roundsb, only-ring}
 
 -- Of each member of a list
 
@@ -51,13 +54,13 @@ module _ (net : Network) (s : State) where
   unfoldable pub fittingb : String → Bool
   fittingb c = eqb (len c) (many back (take (net .lines) (s .kind)))
 
-  unfoldable pub onwardb : String → List String → Bool
-  onwardb c [] = lastb grown (side c)
-  onwardb c (d ∷ l) = both (nextb grown (side c) (side d)) (onwardb d l)
+  unfoldable pub followedb : String → List String → Bool
+  followedb c [] = lastb grown (side c)
+  followedb c (d ∷ l) = both (nextb grown (side c) (side d)) (followedb d l)
 
   unfoldable pub choicesb : List String → Bool
   choicesb [] = everyb grown (λ c. false)
-  choicesb (c ∷ l) = both (firstb grown (side c)) (onwardb c l)
+  choicesb (c ∷ l) = both (firstb grown (side c)) (followedb c l)
 
   abbrev pub order : String → ℕ → List ℕ
   order c = order-at grown (side c)
@@ -75,11 +78,12 @@ module _ (net : Network) (s : State) where
   test (none-after c) = both (fittingb c) (both (properb grown (side c)) (lastb grown (side c)))
   test (not-aligned c) = both (fittingb c) (not (alignedb grown (side c)))
   test (must-agree b d) = both (both (ltb b (net .lines)) (ltb d (net .lines))) (levelb grown b d)
-  test (ring-is steps) = roundb grown (length steps) (at (map (λ step. step .0) steps)) (at (map (λ step. step .1) steps))
+  test (ring-is steps) = both (roundb grown (length steps) (at (step-lines steps)) (at (step-kinds steps))) (roundsb grown (these steps))
   test (mesh-count-is c n) = drawsb c (eqb (meshes c) n)
   test (sizes-are c l) = drawsb c (numbers (size-list (grown .live) (net .lines) (net .ends) (order c)) l)
   test (meshes-are c l) = drawsb c (rows (directions (meshes c) (mesh-list (grown .live) (net .lines) (net .ends) (order c))) l)
   test (clockwise-is c l) = drawsb c (rows (map (order c) (upto (net .vertices))) l)
+  test (trips-are c outer l) = drawsb c (tripsb grown (net .ends) outer l (flat (net .vertices) (order c)) (mesh-list (grown .live) (net .lines) (net .ends) (order c)))
 
 -- What they say
 
@@ -88,15 +92,15 @@ module _ (net : Network) where
   unfolding fittingb back-lines
   fitting-of c t = eqb-true (len c) _ t
 
-  onward-of : (c : String) (l : List String) → onwardb net (finished net) c l ≡ true → ChoicesAfter net c l
-  unfolding onwardb
-  onward-of c [] t = last-of (tree-in net) (choice net c) t
-  onward-of c (d ∷ l) t = let q = both-of t in (next-of (tree-in net) (choice net c) (choice net d) (q .0), onward-of d l (q .1))
+  followed-of : (c : String) (l : List String) → followedb net (finished net) c l ≡ true → FollowedBy net c l
+  unfolding followedb
+  followed-of c [] t = last-of (tree-in net) (choice net c) t
+  followed-of c (d ∷ l) t = let q = both-of t in (next-of (tree-in net) (choice net c) (choice net d) (q .0), followed-of d l (q .1))
 
-  choices-of : (l : List String) → choicesb net (finished net) l ≡ true → Choices net l
+  choices-of : (l : List String) → choicesb net (finished net) l ≡ true → AllChoices net l
   unfolding choicesb
   choices-of [] t = none-of (tree-in net) t
-  choices-of (c ∷ l) t = let q = both-of t in (first-of (tree-in net) (choice net c) (q .0), onward-of c l (q .1))
+  choices-of (c ∷ l) t = let q = both-of t in (first-of (tree-in net) (choice net c) (q .0), followed-of c l (q .1))
 
   draws-of : (c : String) (p : Bool) (P : Type 0) → (p ≡ true → P) → drawsb net (finished net) c p ≡ true → Draws net c P
   unfolding drawsb
@@ -126,8 +130,12 @@ module _ (net : Network) where
       let q = both-of t in
       let r = both-of (q .0) in
       λ side a. aligned-level (tree-in net) side a b d (level-of (tree-in net) b d (ltb-true b (net .lines) (r .0)) (ltb-true d (net .lines) (r .1)) (q .1))
-  true-of (ring-is steps) t = let r = round-of (tree-in net) (length steps) _ _ t in (none-legal (tree-in net) (length steps) _ _ r, r)
+  true-of (ring-is steps) t =
+      let q = both-of t in
+      let r = round-of (tree-in net) (length steps) _ _ (q .0) in
+      (none-legal (tree-in net) (length steps) _ _ r, r, only-ring (tree-in net) steps (q .1))
   true-of (mesh-count-is c n) t = draws-of c _ _ (λ p. eqb-true _ n p) t
   true-of (sizes-are c l) t = draws-of c _ _ (λ p. numbers-of _ l p) t
   true-of (meshes-are c l) t = draws-of c _ _ (λ p. rows-of _ l p) t
   true-of (clockwise-is c l) t = draws-of c _ _ (λ p. rows-of _ l p) t
+  true-of (trips-are c outer l) t = draws-of c _ _ (λ p. p) t

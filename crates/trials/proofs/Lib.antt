@@ -1,9 +1,13 @@
 pub mod Lists
 pub mod Choosing
 pub mod Ringing
+pub mod Rounds
 pub mod Claims
 pub mod Rows
 pub mod Table
+pub mod Refusing
+pub mod Granting
 pub mod Answers
 pub mod Rejected
 pub mod WrongRules
+pub mod WrongRows

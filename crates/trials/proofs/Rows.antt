@@ -32,7 +32,7 @@ refusal n ends =
     (cond (everyone n (finished (network n ends) .found)) 0 6))))
 
 module _ (n : ℕ) (ends : List ℕ) (R : ℕ → Type 0) (G : Type 0) (refused : (k : ℕ) → 0 < k → refusal n ends ≡ k → R k) (done : refusal n ends ≡ 0 → G) where
-  pub checked-of : Checked n ends false R G
+  checked-of : Checked n ends false R G
   unfolding refusal
   checked-of =
       by (oversize n (length ends))

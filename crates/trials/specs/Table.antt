@@ -2,7 +2,8 @@
 use mathlib.Core.List.{List, [], _∷_}
 use Prim.Native.Nat.{ℕ}
 use Rattle.side.specs.Sides.{same, different}
-use Rattle.trials.specs.Trials.{Trial, trial, refused-by, granted, back-lines-are, choices-are, next-is, none-after, not-aligned, must-agree, ring-is, mesh-count-is, sizes-are, meshes-are, clockwise-is}
+use Rattle.trials.specs.Trials.{Trial, trial, refused-by, granted, back-lines-are, choices-are, next-is, none-after, not-aligned, must-agree, ring-is, mesh-count-is, sizes-are, meshes-are, clockwise-is, trips-are}
+use Rattle.trials.specs.Turning.{anticlockwise, clockwise, trip}
 
 -- Four vertices, all joined to each other.
 abbrev pub K4 : List (ℕ × ℕ)
@@ -27,28 +28,39 @@ P1 = trial 1 [] (granted (choices-are ("" ∷ []) ∷ mesh-count-is "" 1 ∷ siz
 abbrev pub P2 : Trial
 P2 = trial 2 ((0, 1) ∷ []) (granted (choices-are ("" ∷ []) ∷ mesh-count-is "" 1 ∷ sizes-are "" (1 ∷ []) ∷ []))
 
--- A triangle: two choices, and two meshes by either.
+-- A triangle: two choices, and two meshes by either, the same two. Walked down, line 2 has mesh 0 on its left hand and mesh 1 on its right. By L mesh 1
+-- is the outer one, so the line's round trip turns anticlockwise; by R mesh 0 is, and it turns clockwise.
 abbrev pub P3 : Trial
-P3 = trial 3 ((0, 1) ∷ (1, 2) ∷ (2, 0) ∷ []) (granted (choices-are ("L" ∷ "R" ∷ []) ∷ mesh-count-is "L" 2 ∷ mesh-count-is "R" 2 ∷ []))
+P3 =
+    trial 3 ((0, 1) ∷ (1, 2) ∷ (2, 0) ∷ [])
+    (granted
+    (choices-are ("L" ∷ "R" ∷ [])
+    ∷ mesh-count-is "L" 2
+    ∷ mesh-count-is "R" 2
+    ∷ trips-are "L" 1 (trip 2 0 1 anticlockwise (0 ∷ []) ∷ [])
+    ∷ trips-are "R" 0 (trip 2 0 1 clockwise (1 ∷ []) ∷ [])
+    ∷ []))
 
 -- K4: its back lines and its choices.
 abbrev pub P4 : Trial
 P4 = trial 4 K4 (granted (back-lines-are (3 ∷ 4 ∷ 5 ∷ []) ∷ choices-are ("LLL" ∷ "LRL" ∷ "RLR" ∷ "RRR" ∷ []) ∷ []))
 
--- K4, all left: the order at each vertex, and the directions on each mesh.
+-- K4, all left: the order at each vertex, and the directions on each mesh. The round trip of every back line
+-- turns anticlockwise: what is on the left hand of its directions is inside, what is on their right hand is outside, and so is the outer mesh.
 abbrev pub P5 : Trial
 P5 =
     trial 4 K4
     (granted
     (clockwise-is "LLL" ((5 ∷ 3 ∷ 0 ∷ []) ∷ (0 ∷ 4 ∷ 1 ∷ []) ∷ (1 ∷ 2 ∷ 5 ∷ []) ∷ (2 ∷ 4 ∷ 3 ∷ []) ∷ [])
     ∷ meshes-are "LLL" ((0 ∷ 6 ∷ 9 ∷ []) ∷ (1 ∷ 3 ∷ 11 ∷ []) ∷ (2 ∷ 4 ∷ 8 ∷ []) ∷ (5 ∷ 7 ∷ 10 ∷ []) ∷ [])
+    ∷ trips-are "LLL" 1 (trip 3 0 3 anticlockwise (0 ∷ 2 ∷ []) ∷ trip 4 2 0 anticlockwise (2 ∷ []) ∷ trip 5 3 1 anticlockwise (0 ∷ 2 ∷ 3 ∷ []) ∷ [])
     ∷ []))
 
--- K5: 7, and a ring of three.
+-- K5: 7, and its only ring, of three lines.
 abbrev pub P6 : Trial
 P6 = trial 5 K5 (granted (ring-is ((5, same) ∷ (6, same) ∷ (8, different) ∷ []) ∷ []))
 
--- K3,3: 7, and a ring of two.
+-- K3,3: 7, and its only ring, of two lines.
 abbrev pub P7 : Trial
 P7 = trial 6 K33 (granted (ring-is ((5, same) ∷ (6, different) ∷ []) ∷ []))
 
@@ -110,8 +122,8 @@ S3 =
     ∷ mesh-count-is "LLR" 4
     ∷ []))
 
-abbrev pub table : List Trial
-table =
+abbrev pub trials : List Trial
+trials =
     P1
     ∷ P2
     ∷ P3

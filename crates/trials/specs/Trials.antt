@@ -1,6 +1,6 @@
 -- What a trial claims of a network, and when the claim is true. (docs/RULES.md, "Worked examples".)
 -- It is true by the words of the calls' statements: the checks, the first proper choice and the next one, a ring, what draw writes.
-use mathlib.Core.Bool.{false, cond}
+use mathlib.Core.Bool.{true, false, cond}
 use mathlib.Core.List.{List, [], _∷_, map}
 use mathlib.Core.Path.{_≡_}
 use Prim.Native.Char.{Char, code}
@@ -8,8 +8,9 @@ use Prim.Native.Nat.{ℕ}
 use Prim.Native.String.{String, len, charAt}
 use lib.Dec.{eqb}
 use lib.ListN.{length, getD}
+use Rattle.rings.specs.Ring.{Ring}
 use Rattle.laws.specs.Counting.{count}
-use Rattle.laws.specs.Lists.{keep, upto, at}
+use Rattle.laws.specs.Lists.{keep, upto, at, Agree}
 use Rattle.laws.specs.Dictionary.{First, Next, Last}
 use Rattle.side.specs.Sides.{left, right, none}
 use Rattle.network.specs.Network.{Network, network}
@@ -19,9 +20,10 @@ use Rattle.tree.specs.Returns.{backb}
 use Rattle.search.specs.Machine.{tree-in}
 use Rattle.search.specs.Orient.{back-lines}
 use Rattle.fork.specs.Fork.{Aligned, Constraint}
-use Rattle.rings.specs.Ring.{Ring}
 use Rattle.choice.specs.Choice.{Drawable, Proper}
+use Rattle.clockwise.specs.Order.{flat}
 use Rattle.drawing.specs.Draw.{clockwise-in, meshes-in, mesh-list-in, size-list-in, Balanced}
+use Rattle.trials.specs.Turning.{Trip, tripsb}
 
 -- What may be claimed of a well-formed network. A choice is given as a word, a letter L or R for each back line, the lowest line first; a ring as
 -- its steps, a line and a kind each.
@@ -38,13 +40,15 @@ pub data Claim : Type 0 where
   not-aligned : String → Claim
   -- Two lines that are on one side in every aligned choice.
   must-agree : ℕ → ℕ → Claim
-  -- 7: no choice is legal, and this is a ring.
+  -- 7: no choice is legal, and this is the only ring.
   ring-is : List (ℕ × ℕ) → Claim
   -- What an aligned choice draws: so many meshes; meshes of these sizes; meshes of these directions; this order at each vertex.
   mesh-count-is : String → ℕ → Claim
   sizes-are : String → List ℕ → Claim
   meshes-are : String → List (List ℕ) → Claim
   clockwise-is : String → List (List ℕ) → Claim
+  -- .. and in it which mesh is the outer one, and how the round trips of back lines turn.
+  trips-are : String → ℕ → List Trip → Claim
 
 -- The checks refuse a network by a number, or they grant it, and then so much is claimed.
 pub data Verdict : Type 0 where
@@ -74,6 +78,13 @@ written S word = map (λ k. cond (backb S k) (getD (sides word) (count (backb S)
 unfoldable pub directions : ℕ → List ℕ → List (List ℕ)
 directions n mesh = map (λ k. keep (λ d. eqb (getD mesh d 0) k) (upto (length mesh))) (upto n)
 
+-- The lines and the kinds of a ring's steps.
+abbrev pub step-lines : List (ℕ × ℕ) → List ℕ
+step-lines steps = map (λ step. step .0) steps
+
+abbrev pub step-kinds : List (ℕ × ℕ) → List ℕ
+step-kinds steps = map (λ step. step .1) steps
+
 -- P holds of each member of a list.
 abbrev pub Every : {A : Type 0} → (A → Type 0) → List A → Type 0
 Every P [] = Unit {0}
@@ -96,13 +107,22 @@ module _ (net : Network) where
   Fitting word = len word ≡ back-lines net
 
   -- The choices after c, to the last; and all choices.
-  abbrev pub ChoicesAfter : String → List String → Type 0
-  ChoicesAfter c [] = Last (net .lines) Good (choice c)
-  ChoicesAfter c (d ∷ l) = Next (net .lines) Good (choice c) (choice d) × ChoicesAfter d l
+  abbrev pub FollowedBy : String → List String → Type 0
+  FollowedBy c [] = Last (net .lines) Good (choice c)
+  FollowedBy c (d ∷ l) = Next (net .lines) Good (choice c) (choice d) × FollowedBy d l
 
-  abbrev pub Choices : List String → Type 0
-  Choices [] = (c : ℕ → ℕ) → Good c → ⊥
-  Choices (c ∷ l) = First (net .lines) Good (choice c) × ChoicesAfter c l
+  abbrev pub AllChoices : List String → Type 0
+  AllChoices [] = (c : ℕ → ℕ) → Good c → ⊥
+  AllChoices (c ∷ l) = First (net .lines) Good (choice c) × FollowedBy c l
+
+  -- These steps are a ring; and every ring has these steps.
+  abbrev pub IsRing : List (ℕ × ℕ) → Type 0
+  IsRing steps = Ring (Constraint (tree-in net)) (length steps) (at (step-lines steps)) (at (step-kinds steps))
+
+  abbrev pub OnlyRing : List (ℕ × ℕ) → Type 0
+  OnlyRing steps =
+      (n : ℕ) (line kind : ℕ → ℕ) → Ring (Constraint (tree-in net)) n line kind
+      → (n ≡ length steps) × Agree n line (at (step-lines steps)) × Agree n kind (at (step-kinds steps))
 
   -- Draw does its work, and P is so.
   pub record Draws (c : String) (P : Type 0) : Type 0 where
@@ -111,19 +131,23 @@ module _ (net : Network) where
     pub balanced : Balanced net (buffer c)
     pub so : P
 
+  -- .. of the order, vertex by vertex, and of the mesh of each direction.
+  abbrev pub DrawsSo : String → (List ℕ → List ℕ → Type 0) → Type 0
+  DrawsSo c P = Draws c (P (flat (net .vertices) (clockwise-in net (buffer c))) (mesh-list-in net (buffer c)))
+
   abbrev pub True : Claim → Type 0
   True (back-lines-are l) = (keep (backb (tree-in net)) (upto (net .lines)) ≡ l) × (back-lines net ≡ length l)
-  True (choices-are l) = Every Fitting l × Choices l
+  True (choices-are l) = Every Fitting l × AllChoices l
   True (next-is c d) = Fitting c × Fitting d × Good (choice c) × Next (net .lines) Good (choice c) (choice d)
   True (none-after c) = Fitting c × Good (choice c) × Last (net .lines) Good (choice c)
   True (not-aligned c) = Fitting c × (Aligned (tree-in net) (choice c) → ⊥)
   True (must-agree b d) = (side : ℕ → ℕ) → Aligned (tree-in net) side → side b ≡ side d
-  True (ring-is steps) =
-      (Drawable (tree-in net) → ⊥) × Ring (Constraint (tree-in net)) (length steps) (at (map (λ step. step .0) steps)) (at (map (λ step. step .1) steps))
+  True (ring-is steps) = (Drawable (tree-in net) → ⊥) × IsRing steps × OnlyRing steps
   True (mesh-count-is c n) = Draws c (meshes-in net (buffer c) ≡ n)
   True (sizes-are c l) = Draws c (size-list-in net (buffer c) ≡ l)
   True (meshes-are c l) = Draws c (directions (meshes-in net (buffer c)) (mesh-list-in net (buffer c)) ≡ l)
   True (clockwise-is c l) = Draws c (map (clockwise-in net (buffer c)) (upto (net .vertices)) ≡ l)
+  True (trips-are c outer l) = DrawsSo c (λ order mesh. tripsb (tree-in net) (net .ends) outer l order mesh ≡ true)
 
 -- When a trial holds: lent all the room that they ask for, the checks refuse the network by that number and grant nothing, or they refuse it by none
 -- and each claim is true.
