@@ -85,6 +85,7 @@ abbrev pub P12 : Trial
 P12 = trial 513 ((0, 600) ∷ []) (refused-by 2)
 
 -- Two triangles on one line. Both back lines end at vertex 0, and no tree line has both as returns: they are free of each other.
+-- By LR the one turns anticlockwise and the other clockwise.
 abbrev pub two-triangles : Trial
 two-triangles =
     trial 4 ((0, 1) ∷ (1, 2) ∷ (2, 0) ∷ (1, 3) ∷ (3, 0) ∷ [])
@@ -95,6 +96,7 @@ two-triangles =
     ∷ mesh-count-is "LR" 3
     ∷ mesh-count-is "RL" 3
     ∷ mesh-count-is "RR" 3
+    ∷ trips-are "LR" 2 (trip 2 0 2 anticlockwise (0 ∷ []) ∷ trip 4 2 1 clockwise (1 ∷ []) ∷ [])
     ∷ []))
 
 -- The same with other numbers, the shared line last. Now a tree line has both back lines as returns: they are on one side.
