@@ -91,5 +91,5 @@ module _ (n : ℕ) (ends : List ℕ) where
               refused-so false (Untouched buffer r buffer′) (Took text buffer r buffer′) refl (read-checked text buffer r buffer′ says roomy x) .answers;
           write = λ text text′ r roomy x.
               refused-so (ltb (length text) (room (length ends / 2))) (Untouched text r text′)
-              ((r ≡ done (room (length ends / 2)) 0) × (text′ ≡ filled (room (length ends / 2)) (text-of n ends) text)) roomy x .0;
+              ((r ≡ done (room (length ends / 2)) 0) × (text′ ≡ filled (room (length ends / 2)) (text-of n ends) text)) roomy x .answers;
         }
