@@ -41,6 +41,7 @@ pub fn all() -> Vec<Kind> {
     kinds.extend(damaged());
     kinds.push(networks("hung-circles", "", 6, circles, LONG_WALK));
     kinds.extend(in_two_numberings("large", &LARGEST, 1, LARGE));
+    kinds.extend(in_two_numberings("between", &BETWEEN, 3, LARGE));
     kinds.extend(up_to_five());
     kinds.extend(in_two_numberings("shapes", &SHAPES, 20, MEDIUM));
     kinds.extend(no_plane());
@@ -269,6 +270,21 @@ const LARGEST: [Shape; 17] = [
     ("triangles-and-a-line", |random| {
         let whole = triangulation(512, 300, random);
         with_lines_added(whole, 1, random)
+    }),
+];
+
+/// Shapes of every size between the small ones and those at the limits.
+const BETWEEN: [Shape; 3] = [
+    ("tree-and-more", |random| {
+        let tree = random_tree(random.between(60, 511), random);
+        with_lines_added(tree, random.between(0, 20), random)
+    }),
+    ("triangles-less-lines", |random| {
+        let whole = triangulation(random.between(60, 511), 300, random);
+        with_lines_removed(whole, random.between(0, 300), true, random)
+    }),
+    ("twisted-ladder", |random| {
+        twisted_ladder(random.between(30, 255))
     }),
 ];
 

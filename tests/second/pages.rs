@@ -67,7 +67,8 @@ pub fn run(plan: &Plan) -> i32 {
 }
 
 /// All texts of a kind, each with the number of its network: one network may have many damaged ones,
-/// and each page is a run of the program, so it is of the texts that a run takes.
+/// and each page is a run of the program, so it is of the texts that a run takes. The room that read
+/// is lent beside a text is nothing to the program.
 fn inputs(plan: &Plan, kind: &Kind, rules: &mut Rules) -> Vec<(usize, Vec<u16>)> {
     let numbers = match &plan.only {
         Some((name, number)) if *name == kind.name => *number..number + 1,
@@ -81,6 +82,7 @@ fn inputs(plan: &Plan, kind: &Kind, rules: &mut Rules) -> Vec<(usize, Vec<u16>)>
             inputs.push((number, request.buffers.swap_remove(0)));
         }
     }
+    inputs.dedup();
     inputs
 }
 
