@@ -512,7 +512,7 @@ static const struct fault {
 
 static const struct fault *chosen;
 
-/* Takes the fault with this name; without one, prints all calls and names and leaves. */
+/* Takes the fault with this name, or none by the name of no_fault; without a name, prints all calls and names and leaves. */
 static void choose_fault(int words, char **word) {
     static const char *const calls[] = {
         [ORIENT] = "orient", [FIRST] = "first", [NEXT] = "next",
@@ -525,12 +525,14 @@ static void choose_fault(int words, char **word) {
         else if (strcmp(word[1], faults[number].name) == 0)
             chosen = &faults[number];
     }
-    if (!chosen)
-        exit(words < 2 ? 0 : NO_SUCH_CALL);
+    if (words < 2)
+        exit(0);
+    if (!chosen && strcmp(word[1], "no_fault") != 0)
+        exit(NO_SUCH_CALL);
 }
 
 static uint64_t make_or_spoil(int call, uint64_t vertices, const struct buffer *lent) {
-    if (chosen->call != call && chosen->call != EVERY_CALL)
-        return make(call, vertices, lent);
-    return chosen->spoil(call, vertices, lent);
+    if (chosen && (chosen->call == call || chosen->call == EVERY_CALL))
+        return chosen->spoil(call, vertices, lent);
+    return make(call, vertices, lent);
 }
