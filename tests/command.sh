@@ -127,6 +127,10 @@ prove() { # FILE VERB NAME
     all=$(count_crates "$3")
     say "proving $3 and building it: $all crates, of which those that have not changed are passed over; all of them take some minutes; log: $log"
     sources=$(sum_of_sources)
+    # rt does not look whether what it built is still there, and whole.
+    if [ ! -f "$root/$1" ] || { [ -r "$proofs/$3" ] && [ "$(sed -n 3p "$proofs/$3")" != "$(sha256sum <"$root/$1")" ]; }; then
+        rm -f "$root/target/stamp/$3"
+    fi
     rm -f "$proofs/$3" "$proofs/status"
     # Nothing here may read standard input: it holds the network.
     {
