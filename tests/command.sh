@@ -43,7 +43,7 @@ begin() { # WORDS
     esac
     [ $# -le 1 ] || no_text "it takes one file; --help says how"
     if [ $# -eq 1 ]; then
-        (: <"$1") 2>/dev/null || no_text "$1: there is no such file, or it may not be read"
+        [ -r "$1" ] || no_text "$1: there is no such file, or it may not be read"
         exec <"$1"
     fi
     (: 3<&0) 2>/dev/null || no_text "standard input is closed, and no file is named"
@@ -66,14 +66,14 @@ is_proved() { # FILE NAME
     ! command -v rt >/dev/null || [ "$of_kit" = "$(rt version)" ]
 }
 
-# Waits until no other command builds in this repository.
+# Waits until no other command builds in this repository. The lock is on crates.txt, which is there even when target/ is not.
 lock() {
-    (mkdir -p "$proofs" && : >>"$proofs/lock") 2>/dev/null ||
+    mkdir -p "$proofs" 2>/dev/null && [ -w "$proofs" ] ||
         fail "something has to be built, and $(id -un) may not write to $root/target; who may has to run this command once"
-    exec 9>>"$proofs/lock"
+    exec 9<"$root/crates.txt"
     flock -n 9 && return
     say "waiting for another command that builds in $root/target"
-    flock 9 || fail "no lock on $proofs/lock"
+    flock 9 || fail "no lock on $root/crates.txt"
 }
 
 unlock() {
