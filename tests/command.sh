@@ -69,7 +69,7 @@ is_proved() { # FILE NAME
 # Waits until no other command builds in this repository. The lock is on crates.txt, which is there even when target/ is not.
 lock() {
     mkdir -p "$proofs" 2>/dev/null && [ -w "$proofs" ] ||
-        fail "something has to be built, and $(id -un) may not write to $root/target; who may has to run this command once"
+        fail "something has to be built, and $(id -un) may not write to $root/target; somebody who may has to run this command once"
     exec 9<"$root/crates.txt"
     flock -n 9 && return
     say "waiting for another command that builds in $root/target"
