@@ -2,23 +2,13 @@
  * the archive holds x86-64 code and may have to run under an emulator, while the second program is
  * plain and slow and should not. The form of requests and answers stands in tests/second/driver.rs.
  *
- * Compiled with -DHAVE_ORIENT and so on for each call that the archive has. */
+ * With -DFAULTS it spoils answers, for tests/faults. */
 
-#include <stdint.h>
+#include "../include/cornetariel.h"
+
 #include <stdlib.h>
 #include <string.h>
 #include <unistd.h>
-
-uint64_t cornetariel_orient(size_t vertices, const uint16_t *ends, size_t ends_len, uint8_t *kinds, size_t kinds_len,
-                            uint16_t *heights, size_t heights_len);
-uint64_t cornetariel_first(size_t vertices, const uint16_t *ends, size_t ends_len, uint8_t *choice, size_t choice_len,
-                           uint16_t *ring_lines, size_t ring_lines_len, uint8_t *ring_kinds, size_t ring_kinds_len);
-uint64_t cornetariel_next(size_t vertices, const uint16_t *ends, size_t ends_len, uint8_t *choice, size_t choice_len);
-uint64_t cornetariel_draw(size_t vertices, const uint16_t *ends, size_t ends_len, const uint8_t *choice,
-                          size_t choice_len, uint16_t *order, size_t order_len, uint16_t *mesh, size_t mesh_len,
-                          uint16_t *sizes, size_t sizes_len);
-uint64_t cornetariel_read(const uint8_t *text, size_t text_len, uint16_t *ends, size_t ends_len);
-uint64_t cornetariel_write(size_t vertices, const uint16_t *ends, size_t ends_len, uint8_t *text, size_t text_len);
 
 enum { END_OF_BATCH, ORIENT, FIRST, NEXT, DRAW, READ, WRITE, CALLS };
 
@@ -94,39 +84,25 @@ struct buffer {
     size_t length, bytes;
 };
 
-static void no_such_call(void) {
-    static const char words[] = "driver: asked for a call that the archive hasn't\n";
-    if (write(2, words, sizeof words - 1) < 0)
-        _exit(BROKEN_PIPE);
-    _exit(NO_SUCH_CALL);
-}
-
 static uint64_t make(int call, uint64_t vertices, const struct buffer *lent) {
 #define NARROW(n) (uint8_t *)lent[n].start, lent[n].length
 #define WIDE(n) (uint16_t *)(void *)lent[n].start, lent[n].length
     switch (call) {
-#ifdef HAVE_ORIENT
     case ORIENT: return cornetariel_orient(vertices, WIDE(0), NARROW(1), WIDE(2));
-#endif
-#ifdef HAVE_FIRST
     case FIRST: return cornetariel_first(vertices, WIDE(0), NARROW(1), WIDE(2), NARROW(3));
-#endif
-#ifdef HAVE_NEXT
     case NEXT: return cornetariel_next(vertices, WIDE(0), NARROW(1));
-#endif
-#ifdef HAVE_DRAW
     case DRAW: return cornetariel_draw(vertices, WIDE(0), NARROW(1), WIDE(2), WIDE(3), WIDE(4));
-#endif
-#ifdef HAVE_READ
     case READ: return cornetariel_read(NARROW(0), WIDE(1));
-#endif
-#ifdef HAVE_WRITE
     case WRITE: return cornetariel_write(vertices, WIDE(0), NARROW(1));
-#endif
-    default: no_such_call();
     }
-    return 0;
+    _exit(NO_SUCH_CALL);
 }
+
+#ifdef FAULTS
+#include "faults.h"
+#else
+#define make_or_spoil make
+#endif
 
 static void fence(unsigned char *at) { memset(at, FENCE_BYTE, FENCE); }
 
@@ -158,24 +134,32 @@ static void answer(int call) {
         /* every buffer starts at a multiple of the fence, so wide numbers lie where they may */
         at += (own->bytes / FENCE + 3) * FENCE;
     }
-    uint64_t returned = make(call, vertices, lent);
+    uint64_t returned = make_or_spoil(call, vertices, lent);
+    /* taken apart as any caller would, so that the header's own words are tried too */
+    uint32_t parts[3] = {cornetariel_number(returned), (uint32_t)cornetariel_count(returned),
+                         (uint32_t)cornetariel_second(returned)};
     unsigned char kept = 1;
     for (int n = 0; n < buffers; n++)
         if (!stands(lent[n].start - FENCE) || !stands(lent[n].start + lent[n].bytes))
             kept = 0;
-    put(&returned, 8);
+    put(parts, sizeof parts);
     put(&kept, 1);
     for (int n = 0; n < buffers; n++)
         put(lent[n].start, lent[n].bytes);
 }
 
-int main(void) {
+int main(int words, char **word) {
     int in_batch = 0;
+#ifdef FAULTS
+    choose_fault(words, word);
+#else
+    (void)words, (void)word;
+#endif
     for (;;) {
         unsigned char call;
         take(&call, 1, 1);
         if (call >= CALLS)
-            no_such_call();
+            _exit(NO_SUCH_CALL);
         if (call == END_OF_BATCH) {
             flush();
             alarm(0);

@@ -44,3 +44,23 @@ need_compiler() { # FOLDER for its files and logs
         fail "$packages could not be installed; see $1/install.log"
     can_compile "$1" || fail "$compiler can't build a static program; see $1/try.log"
 }
+
+can_compile_cpp() { # FOLDER
+    echo '#include <stdint.h>
+    uint64_t try_it;' >"$1/try.cpp"
+    "$cpp" -std=c++11 -fsyntax-only "$1/try.cpp" >"$1/try.log" 2>&1
+}
+
+# Sees that C++ can be compiled, and installs a compiler where it can't. After: `cpp`.
+need_cpp() { # FOLDER for its files and logs
+    case $machine in
+    x86_64) cpp=g++ packages=g++ ;;
+    *) cpp=x86_64-linux-gnu-g++ packages='g++-x86-64-linux-gnu libc6-dev-amd64-cross' ;;
+    esac
+    if can_compile_cpp "$1"; then return; fi
+    echo "installing $packages" >&2
+    # shellcheck disable=SC2086
+    { apt-get update && apt-get install -y --no-install-recommends $packages; } </dev/null >"$1/install.log" 2>&1 ||
+        fail "$packages could not be installed; see $1/install.log"
+    can_compile_cpp "$1" || fail "$cpp can't compile C++; see $1/try.log"
+}

@@ -118,15 +118,8 @@ impl Rules {
             self.on_network(request, &mut buffers)
         };
         match answered {
-            Ok((first, second)) => Expected::Exactly(Answer {
-                returned: returned(0, first, second),
-                buffers,
-            }),
             Err(7) => Expected::Ring(self.last.clone().expect("7 is said of the last network")),
-            Err(number) => Expected::Exactly(Answer {
-                returned: returned(number, 0, 0),
-                buffers: request.buffers.clone(),
-            }),
+            _ => Expected::Exactly(answer(request, answered, buffers)),
         }
     }
 
@@ -148,6 +141,24 @@ impl Rules {
             }
             Call::Read => unreachable!("read is lent no network"),
         }
+    }
+}
+
+/// The answer with these counts and buffers, or a refusal, which leaves the buffers as they were lent.
+pub fn answer(
+    request: &Request,
+    answered: Result<(usize, usize), u64>,
+    buffers: Vec<Vec<u16>>,
+) -> Answer {
+    match answered {
+        Ok((first, second)) => Answer {
+            returned: returned(0, first, second),
+            buffers,
+        },
+        Err(number) => Answer {
+            returned: returned(number, 0, 0),
+            buffers: request.buffers.clone(),
+        },
     }
 }
 
@@ -240,12 +251,20 @@ fn next(sides: &Sides, buffers: &mut [Vec<u16>]) -> Result<(usize, usize), u64> 
 
 fn draw(sides: &Sides, buffers: &mut [Vec<u16>]) -> Result<(usize, usize), u64> {
     let choice = lent_choice(sides, buffers)?;
-    let drawing = Drawing::of(sides, &choice);
+    handed_out(&Drawing::of(sides, &choice), buffers)
+}
+
+/// A drawing as draw hands it out, or 10.
+pub fn handed_out(drawing: &Drawing, buffers: &mut [Vec<u16>]) -> Result<(usize, usize), u64> {
     if !drawing.sum_is_two() {
         return Err(10);
     }
+    write_out(drawing, buffers);
+    Ok((drawing.sizes.len(), 0))
+}
+
+pub fn write_out(drawing: &Drawing, buffers: &mut [Vec<u16>]) {
     fill(&mut buffers[2], &narrow(&drawing.order.concat()));
     fill(&mut buffers[3], &narrow(&drawing.mesh));
     fill(&mut buffers[4], &narrow(&drawing.sizes));
-    Ok((drawing.sizes.len(), 0))
 }

@@ -1,13 +1,17 @@
 //! Holds an answer against what was expected, number by number.
 
 use crate::calls::{returned, Answer, Call, Expected, Request};
+use crate::rules::Network;
 use crate::sides::{Sides, DIFFERENT, SAME};
 use crate::text;
+use crate::turns::turn_fault;
 
 /// What is wrong with the answer, or nothing.
 pub fn difference(request: &Request, expected: &Expected, got: &Answer) -> Option<String> {
     match expected {
-        Expected::Exactly(wanted) => first_difference(request.call, wanted, got),
+        Expected::Exactly(wanted) => {
+            first_difference(request.call, wanted, got).or_else(|| turned_wrongly(request, got))
+        }
         Expected::Ring(sides) => ring_difference(request, sides, got),
     }
 }
@@ -33,6 +37,17 @@ fn first_difference(call: Call, wanted: &Answer, got: &Answer) -> Option<String>
         ));
     }
     None
+}
+
+/// A drawing must also keep to what left means, whatever the rules as written here made of it.
+fn turned_wrongly(request: &Request, got: &Answer) -> Option<String> {
+    if request.call != Call::Draw || got.returned & 255 != 0 {
+        return None;
+    }
+    let network = Network::of_ends(request.vertices as usize, &request.buffers[0]);
+    let lines = network.lines.len();
+    let (choice, order) = (&got.buffers[1][..lines], &got.buffers[2][..2 * lines]);
+    turn_fault(&network, choice, order, &got.buffers[3][..2 * lines])
 }
 
 fn shown(value: u64) -> String {
@@ -63,7 +78,7 @@ fn ring_difference(request: &Request, sides: &Sides, got: &Answer) -> Option<Str
     let kinds = &got.buffers[3][..length];
     if let Some(fault) = ring_fault(sides, lines, kinds) {
         return Some(format!(
-            "no ring, for {fault}: lines {lines:?}, kinds {kinds:?}"
+            "no ring, {fault:?}: lines {lines:?}, kinds {kinds:?}"
         ));
     }
     let mut wanted = Answer {
@@ -75,41 +90,50 @@ fn ring_difference(request: &Request, sides: &Sides, got: &Answer) -> Option<Str
     first_difference(request.call, &wanted, got)
 }
 
+/// What keeps steps from being a ring of a network.
+#[derive(Clone, Copy, Debug, PartialEq)]
+pub enum RingFault {
+    TooShort,
+    NoBackLine,
+    LineTwice,
+    NoConstraint,
+    EvenlyDifferent,
+    NotFromTheLowest,
+    DifferentFirst,
+    ToTheHigherNeighbour,
+}
+
 /// Why these are not a ring of this network, or nothing where they are one.
-pub fn ring_fault(sides: &Sides, lines: &[u16], kinds: &[u16]) -> Option<String> {
+pub fn ring_fault(sides: &Sides, lines: &[u16], kinds: &[u16]) -> Option<RingFault> {
     let length = lines.len();
     if length < 2 {
-        return Some("a ring has two steps or more".to_string());
+        return Some(RingFault::TooShort);
     }
-    for (place, &line) in lines.iter().enumerate() {
-        let is_back_line = sides.search.back.get(line as usize) == Some(&true);
-        if !is_back_line {
-            return Some(format!("{line} is no back line"));
-        }
-        if lines[..place].contains(&line) {
-            return Some(format!("{line} is there twice"));
-        }
+    let is_back_line = |line: &u16| sides.search.back.get(*line as usize) == Some(&true);
+    if !lines.iter().all(is_back_line) {
+        return Some(RingFault::NoBackLine);
     }
-    for place in 0..length {
+    if (1..length).any(|place| lines[..place].contains(&lines[place])) {
+        return Some(RingFault::LineTwice);
+    }
+    let is_constraint = |place: usize| {
         let next = (place + 1) % length;
-        if !sides.constrains(lines[place] as usize, lines[next] as usize, kinds[place]) {
-            return Some(format!(
-                "no fork gives {} to {} the kind {}",
-                lines[place], lines[next], kinds[place]
-            ));
-        }
+        sides.constrains(lines[place] as usize, lines[next] as usize, kinds[place])
+    };
+    if !(0..length).all(is_constraint) {
+        return Some(RingFault::NoConstraint);
     }
     if kinds.iter().filter(|&&kind| kind == DIFFERENT).count() % 2 == 0 {
-        return Some("an even number of steps is different".to_string());
+        return Some(RingFault::EvenlyDifferent);
     }
     if lines.iter().min() != Some(&lines[0]) {
-        return Some("it does not begin at its lowest line".to_string());
+        return Some(RingFault::NotFromTheLowest);
     }
     if length == 2 && kinds[0] != SAME {
-        return Some("of two steps the first must be same".to_string());
+        return Some(RingFault::DifferentFirst);
     }
     if length > 2 && lines[1] > lines[length - 1] {
-        return Some("it goes on to the higher neighbour of its first line".to_string());
+        return Some(RingFault::ToTheHigherNeighbour);
     }
     None
 }

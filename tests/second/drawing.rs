@@ -14,7 +14,11 @@ pub struct Drawing {
 
 impl Drawing {
     pub fn of(sides: &Sides, choice: &[u16]) -> Drawing {
-        let order = clockwise_order(sides, choice);
+        Drawing::with_order(sides, clockwise_order(sides, choice))
+    }
+
+    /// With the meshes that follow from this order, be it of a choice or not.
+    pub fn with_order(sides: &Sides, order: Vec<Vec<usize>>) -> Drawing {
         let (mesh, sizes) = meshes(sides, &order);
         Drawing { order, mesh, sizes }
     }

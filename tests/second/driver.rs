@@ -2,10 +2,10 @@
 //!
 //! A request is a byte for the call, eight bytes for the vertex count, and for each buffer four bytes
 //! for its length and then its numbers, all with the low byte first. A zero byte ends a batch. An
-//! answer is eight bytes for what was returned, a byte that is 1 if nothing outside the lent buffers
-//! was written, and the buffers.
+//! answer is three times four bytes for the number and the two counts, a byte that is 1 if nothing
+//! outside the lent buffers was written, and the buffers.
 
-use crate::calls::{Answer, Call, Request};
+use crate::calls::{returned, Answer, Call, Request};
 use std::io::{self, BufReader, Read, Write};
 use std::process::{Child, ChildStdin, ChildStdout, Command, Stdio};
 use std::thread;
@@ -79,7 +79,7 @@ fn batch_bytes(batch: &[&Request]) -> Vec<u8> {
     bytes
 }
 
-pub fn put_numbers(bytes: &mut Vec<u8>, numbers: &[u16], width: usize) {
+fn put_numbers(bytes: &mut Vec<u8>, numbers: &[u16], width: usize) {
     for number in numbers {
         bytes.extend(&number.to_le_bytes()[..width]);
     }
@@ -106,13 +106,27 @@ fn take_numbers(input: &mut impl Read, count: usize, width: usize) -> io::Result
 }
 
 fn read_answer(input: &mut impl Read, request: &Request) -> io::Result<Kept> {
-    let returned = u64::from_le_bytes(take(input)?);
+    let mut part = || take(&mut *input).map(u32::from_le_bytes);
+    let (number, first, second) = (part()?, part()?, part()?);
     let [kept] = take(input)?;
     let mut buffers = Vec::new();
     for (buffer, width) in request.buffers.iter().zip(request.call.widths()) {
         buffers.push(take_numbers(input, buffer.len(), width)?);
     }
+    let returned = returned(u64::from(number), first as usize, second as usize);
     Ok((Answer { returned, buffers }, kept == 1))
+}
+
+/// The other end of the pipe: an answer that kept to the lent buffers.
+pub fn put_answer(bytes: &mut Vec<u8>, call: Call, answer: &Answer) {
+    let value = answer.returned;
+    for part in [value & 255, value >> 8 & 0xff_ffff, value >> 32] {
+        bytes.extend((part as u32).to_le_bytes());
+    }
+    bytes.push(1);
+    for (buffer, width) in answer.buffers.iter().zip(call.widths()) {
+        put_numbers(bytes, buffer, width);
+    }
 }
 
 /// The other end of the pipe: the next request, or nothing at the end of a batch.

@@ -2,16 +2,17 @@
 //! against the library call by call, number by number. See tests/run for how it is built and started.
 //!
 //! What the rules say: `rules` (networks, search, returns), `sides` (choices, over `pairs`),
-//! `drawing`, `text`, and `calls`, which has the numbers and counts. What is tried: `networks`,
-//! `malformed` and `requests`, put together in `families`. How: `run`, `driver` (the pipe),
-//! `compare`; `pages` does the same for the listing program. `self_test` and `mirror` try this program
-//! itself.
+//! `drawing` and `turns`, `text`, and `calls`, which has the numbers and counts. What is tried:
+//! `networks`, `malformed` and `requests`, put together in `families`, of which a run takes as `kinds`
+//! says. How: `run`, `driver` (the pipe), `compare`; `pages` does the same for the listing program.
+//! `self_test` and `mirror` try this program itself.
 
 mod calls;
 mod compare;
 mod drawing;
 mod driver;
 mod families;
+mod kinds;
 mod malformed;
 mod mirror;
 mod networks;
@@ -24,6 +25,7 @@ mod run;
 mod self_test;
 mod sides;
 mod text;
+mod turns;
 
 use calls::Call;
 use run::Plan;
@@ -35,9 +37,10 @@ const USAGE: &str = "usage: second [OPTION...] -- DRIVER [WORD...]
        second --answer        be a driver that answers by the rules
 options: --calls NAMES        the calls to compare, with commas between (all six)
          --seed NUMBER        another seed than 1
-         --size NUMBER        so many times as many networks of each family
-         --every NUMBER       of the networks of each family the first and every NUMBERth after it
-         --only FAMILY:NUMBER the calls on this one network";
+         --size NUMBER        so many times as many networks of each kind
+         --every NUMBER       one in NUMBER of each kind, drawn by lot, but not fewer than 16 of a kind
+         --only KIND:NUMBER   the calls on this one network
+         --until NUMBER       end after so many differences";
 
 fn main() {
     let words: Vec<String> = std::env::args().skip(1).collect();
@@ -64,6 +67,7 @@ fn plan(words: &[String]) -> Option<Plan> {
         size: 1,
         every: 1,
         only: None,
+        until: usize::MAX,
     };
     if plan.command.is_empty() || end % 2 == 1 {
         return None;
@@ -81,9 +85,10 @@ fn plan(words: &[String]) -> Option<Plan> {
             "--size" => plan.size = value.parse().ok()?,
             "--every" => plan.every = value.parse().ok().filter(|&every| every > 0)?,
             "--only" => {
-                let (family, number) = value.split_once(':')?;
-                plan.only = Some((family.to_string(), number.parse().ok()?));
+                let (kind, number) = value.split_once(':')?;
+                plan.only = Some((kind.to_string(), number.parse().ok()?));
             }
+            "--until" => plan.until = value.parse().ok()?,
             _ => return None,
         }
     }

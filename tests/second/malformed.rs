@@ -22,44 +22,87 @@ const VERTEX_COUNTS: [u64; 11] = [
     u64::MAX,
 ];
 
+/// Lengths of a list of ends about the limit of 2,048 lines.
+const LENGTHS: [usize; 6] = [4094, 4095, 4096, 4097, 4098, 5000];
+
 /// One damage to a list of ends or its vertex count.
-fn damage(vertices: &mut u64, ends: &mut Vec<u16>, random: &mut Random) {
+#[derive(Clone, Copy)]
+pub enum Damage {
+    Vertices(u64),
+    Length(usize),
+    OneEndLess,
+    EndThatIsNoVertex,
+    EqualEnds,
+    LineTwice,
+    LineTwiceTurned,
+    LineLess,
+    VertexMore,
+}
+
+use Damage::*;
+
+const OTHER_DAMAGES: [(&str, Damage); 7] = [
+    ("one-end-less", OneEndLess),
+    ("end-that-is-no-vertex", EndThatIsNoVertex),
+    ("equal-ends", EqualEnds),
+    ("line-twice", LineTwice),
+    ("line-twice-turned", LineTwiceTurned),
+    ("line-less", LineLess),
+    ("vertex-more", VertexMore),
+];
+
+/// Every damage with its name.
+pub fn damages() -> Vec<(String, Damage)> {
+    let vertices = VERTEX_COUNTS.map(|count| (format!("vertices-{count}"), Vertices(count)));
+    let lengths = LENGTHS.map(|length| (format!("ends-{length}"), Length(length)));
+    let others = OTHER_DAMAGES.map(|(name, damage)| (name.to_string(), damage));
+    vertices.into_iter().chain(lengths).chain(others).collect()
+}
+
+fn any_damage(random: &mut Random) -> Damage {
+    match random.below(2 + OTHER_DAMAGES.len()) {
+        0 => Vertices(random.one_of(&VERTEX_COUNTS)),
+        1 => Length(random.one_of(&LENGTHS)),
+        other => OTHER_DAMAGES[other - 2].1,
+    }
+}
+
+fn inflict(damage: Damage, vertices: &mut u64, ends: &mut Vec<u16>, random: &mut Random) {
     let place = random.below(ends.len().max(1));
     let line = place / 2 * 2;
-    match random.below(9) {
-        0 => *vertices = random.one_of(&VERTEX_COUNTS),
-        1 => {
+    match damage {
+        Vertices(count) => *vertices = count,
+        Length(length) => ends.resize(length, random.below(4) as u16),
+        OneEndLess => {
             ends.pop();
         }
-        2 => {
-            let length = random.one_of(&[4094, 4095, 4096, 4097, 4098, 5000]);
-            ends.resize(length, random.below(4) as u16);
-        }
-        3 if !ends.is_empty() => {
+        EndThatIsNoVertex if !ends.is_empty() => {
             let just_past = vertices.wrapping_add(random.below(2) as u64) as u16;
             ends[place] = random.one_of(&[just_past, 0x8000, 0xffff]);
         }
-        4 if ends.len() >= 2 => ends[line] = ends[(line + 1).min(ends.len() - 1)],
-        5 if ends.len() > line + 1 => ends.extend([ends[line], ends[line + 1]]),
-        6 if ends.len() > line + 1 => ends.extend([ends[line + 1], ends[line]]),
-        7 if ends.len() > line + 1 => {
+        EqualEnds if ends.len() >= 2 => ends[line] = ends[(line + 1).min(ends.len() - 1)],
+        LineTwice if ends.len() > line + 1 => ends.extend([ends[line], ends[line + 1]]),
+        LineTwiceTurned if ends.len() > line + 1 => ends.extend([ends[line + 1], ends[line]]),
+        LineLess if ends.len() > line + 1 => {
             ends.drain(line..line + 2);
         }
-        8 => *vertices = vertices.wrapping_add(1),
+        VertexMore => *vertices = vertices.wrapping_add(1),
+        // a network of one vertex has no line to damage
         _ => {}
     }
 }
 
-/// A call on a small network with one to three damages, now and then with short buffers too, so
-/// that the order of the checks shows.
-pub fn damaged(wanted: &[Call], random: &mut Random) -> Vec<Request> {
+/// A call on a small network with this damage and up to two others, now and then with short buffers
+/// too, so that the order of the checks shows.
+pub fn damaged(damage: Damage, wanted: &[Call], random: &mut Random) -> Vec<Request> {
     let vertices = random.between(1, 8);
     let added = random.below(8);
     let tree = networks::random_tree(vertices, random);
     let network = networks::with_lines_added(tree, added, random);
     let (mut vertices, mut ends) = (network.vertices as u64, network.ends());
-    for _ in 0..random.between(1, 3) {
-        damage(&mut vertices, &mut ends, random);
+    inflict(damage, &mut vertices, &mut ends, random);
+    for _ in 0..random.below(3) {
+        inflict(any_damage(random), &mut vertices, &mut ends, random);
     }
     let shorten = random.below(4) == 0;
     let mut requests = Vec::new();
@@ -154,83 +197,88 @@ fn claiming(vertices: usize, claimed: usize, frames: usize) -> Vec<u16> {
     text
 }
 
-pub const TEXT_KINDS: usize = 7;
+fn by(bytes: &[u8]) -> Vec<u16> {
+    bytes.iter().map(|&byte| u16::from(byte)).collect()
+}
 
-pub fn texts(number: usize, random: &mut Random) -> Vec<Request> {
-    let telling: Vec<u16> = TELLING_BYTES.iter().map(|&byte| u16::from(byte)).collect();
-    let all: Vec<u16> = (0..256).collect();
-    match number % TEXT_KINDS {
-        0 => every_damage(&bytes_of("00010000\n"), &all, random),
-        1 => every_damage(
-            &bytes_of("00030003\n00000001\n00010002\n00020000\n"),
-            &all,
-            random,
-        ),
-        2 => every_damage(&text::of(512, &networks::path(12).ends()), &telling, random),
-        3 => {
-            let vertices = random.between(2, 300);
-            let network =
-                networks::renumbered(networks::random_tree(vertices.min(30), random), random);
-            every_damage(&text::of(vertices, &network.ends()), &telling, random)
-        }
-        4 => {
-            let words = [
-                "",
-                "\n",
-                "00010000",
-                "0001000\n",
-                "00010000\r\n",
-                " 00010000\n",
-                "00010000\n\n",
-                "00000000\n",
-            ];
-            let more = [
-                "02010000\n",
-                "02000000\n",
-                "00020000\n",
-                "0001000A\n",
-                "ffffffff\n",
-                "0001 000\n",
-                "00020001\n",
-            ];
-            words
-                .iter()
-                .chain(&more)
-                .map(|words| on_text(&bytes_of(words), 4, random))
-                .collect()
-        }
-        5 => {
-            let claims = [
-                (512, 2048, 2048),
-                (512, 2049, 2049),
-                (512, 2050, 2050),
-                (513, 2048, 2048),
-                (0, 511, 511),
-            ];
-            let more = [
-                (512, 2048, 2047),
-                (512, 2048, 2049),
-                (512, 511, 511),
-                (511, 511, 511),
-                (512, 65_535, 0),
-            ];
-            let requests = claims
-                .iter()
-                .chain(&more)
-                .map(|&(vertices, claimed, frames)| {
-                    let lines = random.one_of(&[frames, claimed.min(4000), 0]);
-                    on_text(&claiming(vertices, claimed, frames), lines, random)
-                });
-            requests.collect()
-        }
-        _ => {
-            let whole = claiming(2, 65_535, 65_535);
-            let mut ending_badly = whole.clone();
-            ending_badly[whole.len() - 1] = 13;
-            [whole, ending_badly]
-                .iter()
-                .map(|text| on_text(text, 10, random))
-                .collect()
-        }
-    }
+fn every_byte() -> Vec<u16> {
+    (0..256).collect()
+}
+
+/// Kinds of texts, each with its name.
+pub const TEXTS: [(&str, fn(&mut Random) -> Vec<Request>); 7] = [
+    ("vertex-damaged", |random| {
+        every_damage(&bytes_of("00010000\n"), &every_byte(), random)
+    }),
+    ("triangle-damaged", |random| {
+        let triangle = bytes_of("00030003\n00000001\n00010002\n00020000\n");
+        every_damage(&triangle, &every_byte(), random)
+    }),
+    ("path-damaged", |random| {
+        let path = text::of(512, &networks::path(12).ends());
+        every_damage(&path, &by(TELLING_BYTES), random)
+    }),
+    ("tree-damaged", |random| {
+        let vertices = random.between(2, 300);
+        let tree = networks::random_tree(vertices.min(30), random);
+        let text = text::of(vertices, &networks::renumbered(tree, random).ends());
+        every_damage(&text, &by(TELLING_BYTES), random)
+    }),
+    ("short", short_texts),
+    ("line-counts", line_counts),
+    ("lines-65535", most_lines),
+];
+
+fn short_texts(random: &mut Random) -> Vec<Request> {
+    let words = [
+        "",
+        "\n",
+        "00010000",
+        "0001000\n",
+        "00010000\r\n",
+        " 00010000\n",
+        "00010000\n\n",
+        "00000000\n",
+        "02010000\n",
+        "02000000\n",
+        "00020000\n",
+        "0001000A\n",
+        "ffffffff\n",
+        "0001 000\n",
+        "00020001\n",
+    ];
+    let read = |words: &&str| on_text(&bytes_of(words), 4, random);
+    words.iter().map(read).collect()
+}
+
+/// Texts about the limit of lines, and ones that have not as many as they claim.
+fn line_counts(random: &mut Random) -> Vec<Request> {
+    let claims = [
+        (512, 2048, 2048),
+        (512, 2049, 2049),
+        (512, 2050, 2050),
+        (513, 2048, 2048),
+        (0, 511, 511),
+        (512, 2048, 2047),
+        (512, 2048, 2049),
+        (512, 511, 511),
+        (511, 511, 511),
+        (512, 65_535, 0),
+    ];
+    let read = |&(vertices, claimed, frames): &(usize, usize, usize)| {
+        let text = claiming(vertices, claimed, frames);
+        [frames, claimed.min(4000), 0].map(|lines| on_text(&text, lines, random))
+    };
+    claims.iter().flat_map(read).collect()
+}
+
+/// The longest text that has the form, whole and with its last byte wrong.
+fn most_lines(random: &mut Random) -> Vec<Request> {
+    let whole = claiming(2, 65_535, 65_535);
+    let mut ending_badly = whole.clone();
+    ending_badly[whole.len() - 1] = 13;
+    [whole, ending_badly]
+        .iter()
+        .map(|text| on_text(text, 10, random))
+        .collect()
 }

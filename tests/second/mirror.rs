@@ -2,7 +2,7 @@
 //! tried where there is no library. It also finds rings, which the comparison itself never needs.
 
 use crate::calls::{returned, Answer, Expected, Request, Rules};
-use crate::driver::{put_numbers, read_request};
+use crate::driver::{put_answer, read_request};
 use crate::sides::{Sides, DIFFERENT, SAME};
 use std::io::{self, BufReader, Write};
 
@@ -21,12 +21,7 @@ pub fn answer_all() {
             bytes.clear();
             continue;
         };
-        let answer = answer(&mut rules, &request);
-        bytes.extend(answer.returned.to_le_bytes());
-        bytes.push(1);
-        for (buffer, width) in answer.buffers.iter().zip(request.call.widths()) {
-            put_numbers(&mut bytes, buffer, width);
-        }
+        put_answer(&mut bytes, request.call, &answer(&mut rules, &request));
     }
 }
 

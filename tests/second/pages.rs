@@ -1,13 +1,14 @@
-//! The listing program: its page for each text of the families, held against the page that the
-//! rules give. Which ring is shown is left open, so a ring is tested and not compared.
+//! The listing program: its page for the texts of each kind, held against the page that the rules
+//! give. Which ring is shown is left open, so a ring is tested and not compared.
 
 use crate::calls::{Call, Rules};
 use crate::compare::ring_fault;
 use crate::drawing::Drawing;
 use crate::families;
+use crate::kinds::{taken, Kind, Tally};
 use crate::random::Random;
 use crate::rules::{Network, MOST_LINES, MOST_VERTICES};
-use crate::run::{numbers, Plan};
+use crate::run::Plan;
 use crate::sides::Sides;
 use crate::text;
 use std::io::Write;
@@ -27,38 +28,66 @@ enum Page {
 pub fn run(plan: &Plan) -> i32 {
     let (mut compared, mut differences) = (0, 0);
     let mut rules = Rules::new();
-    for family in families::all() {
-        for number in numbers(plan, &family) {
-            let mut random = Random::for_network(plan.seed, family.name, number);
-            for request in family.requests(number, &mut rules, &[Call::Read], &mut random) {
-                let input = &request.buffers[0];
-                compared += 1;
-                let fault = match printed(plan, input) {
-                    Some(got) => fault(&page(&mut rules, input), &got),
-                    None => Some("the program could not be run to its end".to_string()),
-                };
-                if let Some(fault) = fault {
-                    differences += 1;
-                    if differences <= MOST_SHOWN {
-                        println!(
-                            "\nDIFFERENCE: {fault}\nthe input, {} bytes:\n{}",
-                            input.len(),
-                            text::shown(input)
-                        );
-                        println!(
-                            "again with: --pages --seed {} --only {}:{number}\n",
-                            plan.seed, family.name
-                        );
-                    }
-                }
+    let mut tally = Tally::default();
+    for kind in families::all() {
+        let inputs = inputs(plan, &kind, &mut rules);
+        let mut random = Random::for_kind(plan.seed, &kind.name);
+        let taken = taken(inputs.len(), plan.every, &mut random);
+        tally.add(&kind, taken.len(), inputs.len());
+        for place in taken {
+            let (number, input) = &inputs[place];
+            compared += 1;
+            let Some(fault) = fault_of_page(plan, &mut rules, input) else {
+                continue;
+            };
+            differences += 1;
+            if differences <= MOST_SHOWN {
+                println!(
+                    "\nDIFFERENCE: {fault}\nthe input, {} bytes:\n{}",
+                    input.len(),
+                    text::shown(input)
+                );
+                println!(
+                    "again with: --pages --seed {} --only {}:{number}\n",
+                    plan.seed, kind.name
+                );
+            }
+            if differences == plan.until {
+                return 1;
             }
         }
     }
+    println!("pages of each kind:\n{}", tally.shown());
     println!("{compared} pages compared, {differences} differences");
     match (compared, differences) {
         (0, _) => 2,
         (_, 0) => 0,
         _ => 1,
+    }
+}
+
+/// All texts of a kind, each with the number of its network: one network may have many damaged ones,
+/// and each page is a run of the program, so it is of the texts that a run takes.
+fn inputs(plan: &Plan, kind: &Kind, rules: &mut Rules) -> Vec<(usize, Vec<u16>)> {
+    let numbers = match &plan.only {
+        Some((name, number)) if *name == kind.name => *number..number + 1,
+        Some(_) => 0..0,
+        None => 0..kind.count * plan.size,
+    };
+    let mut inputs = Vec::new();
+    for number in numbers {
+        let mut random = Random::for_network(plan.seed, &kind.name, number);
+        for mut request in kind.requests(number, rules, &[Call::Read], &mut random) {
+            inputs.push((number, request.buffers.swap_remove(0)));
+        }
+    }
+    inputs
+}
+
+fn fault_of_page(plan: &Plan, rules: &mut Rules, input: &[u16]) -> Option<String> {
+    match printed(plan, input) {
+        Some(got) => fault(&page(rules, input), &got),
+        None => Some("the program could not be run to its end".to_string()),
     }
 }
 
@@ -136,7 +165,7 @@ fn fault(wanted: &Page, got: &str) -> Option<String> {
         Page::Exactly(page) => Some(format!("wanted\n{page}and got\n{got}")),
         Page::Ring(sides) => match ring(got) {
             Some((lines, kinds)) => {
-                ring_fault(sides, &lines, &kinds).map(|why| format!("no ring, {why}:\n{got}"))
+                ring_fault(sides, &lines, &kinds).map(|why| format!("no ring, {why:?}:\n{got}"))
             }
             None => Some(format!("wanted 7 and a ring, and got\n{got}")),
         },

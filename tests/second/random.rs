@@ -7,14 +7,20 @@ impl Random {
         Random(seed)
     }
 
-    /// The generator of one network of one family: the seed of the run, the family's name and the
-    /// network's number settle it, so one network can be made again without those before it.
-    pub fn for_network(seed: u64, family: &str, number: usize) -> Random {
+    /// The generator for what concerns a whole kind: the seed of the run and the kind's name settle it.
+    pub fn for_kind(seed: u64, kind: &str) -> Random {
         let mut random = Random(seed);
-        for byte in family.bytes() {
+        for byte in kind.bytes() {
             random.0 ^= u64::from(byte);
             random.number();
         }
+        random
+    }
+
+    /// The generator of one network of a kind. Its number settles it too, so one network can be made
+    /// again without those before it.
+    pub fn for_network(seed: u64, kind: &str, number: usize) -> Random {
+        let mut random = Random::for_kind(seed, kind);
         random.0 ^= number as u64;
         random.number();
         random

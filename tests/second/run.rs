@@ -4,7 +4,8 @@
 use crate::calls::{Call, Expected, Request, Rules};
 use crate::compare::{described, difference};
 use crate::driver::{Driver, Kept};
-use crate::families::{self, Family};
+use crate::families;
+use crate::kinds::{taken, Kind, Tally};
 use crate::random::Random;
 use std::sync::mpsc::{sync_channel, Receiver, SyncSender};
 use std::thread;
@@ -16,10 +17,12 @@ pub struct Plan {
     pub size: usize,
     pub every: usize,
     pub only: Option<(String, usize)>,
+    /// A run ends after so many differences.
+    pub until: usize,
 }
 
 struct Case {
-    family: &'static str,
+    kind: String,
     number: usize,
     request: Request,
     expected: Expected,
@@ -40,14 +43,18 @@ pub fn run(plan: &Plan) -> i32 {
         plan.every
     );
     let (sender, receiver) = sync_channel(4);
-    let (compared, differences) = thread::scope(|scope| {
+    let (tally, (compared, differences)) = thread::scope(|scope| {
         let comparer = scope.spawn(|| compare_all(plan, receiver));
-        make_all(plan, &sender);
+        let tally = make_all(plan, &sender);
         drop(sender);
-        comparer
+        let found = comparer
             .join()
-            .expect("the comparing thread ends by itself")
+            .expect("the comparing thread ends by itself");
+        (tally, found)
     });
+    if let Some(tally) = tally {
+        println!("networks of each kind:\n{}", tally.shown());
+    }
     println!("{compared} calls compared, {differences} differences");
     match (compared, differences) {
         (0, _) => 2,
@@ -56,53 +63,47 @@ pub fn run(plan: &Plan) -> i32 {
     }
 }
 
-fn make_all(plan: &Plan, sender: &SyncSender<Vec<Case>>) {
+/// Makes all cases and tells of how many networks, or nothing where the comparer has given up.
+fn make_all(plan: &Plan, sender: &SyncSender<Vec<Case>>) -> Option<Tally> {
     let mut rules = Rules::new();
+    let mut tally = Tally::default();
     let mut batch = Vec::new();
     let mut lent = 0;
-    for family in families::all() {
-        let mut calls = 0;
-        let numbers = numbers(plan, &family);
-        for number in numbers.clone() {
-            let mut random = Random::for_network(plan.seed, family.name, number);
-            for request in family.requests(number, &mut rules, &plan.calls, &mut random) {
+    for kind in families::all() {
+        let numbers = numbers(plan, &kind);
+        for &number in &numbers {
+            let mut random = Random::for_network(plan.seed, &kind.name, number);
+            for request in kind.requests(number, &mut rules, &plan.calls, &mut random) {
                 let expected = rules.expected(&request);
                 lent += request.buffers.iter().map(Vec::len).sum::<usize>();
-                calls += 1;
                 batch.push(Case {
-                    family: family.name,
+                    kind: kind.name.clone(),
                     number,
                     request,
                     expected,
                 });
                 if lent > MOST_LENT || batch.len() == MOST_CALLS {
                     lent = 0;
-                    if sender.send(std::mem::take(&mut batch)).is_err() {
-                        return;
-                    }
+                    sender.send(std::mem::take(&mut batch)).ok()?;
                 }
             }
         }
-        if calls > 0 {
-            println!(
-                "family {}: {} networks, {calls} calls",
-                family.name,
-                numbers.len()
-            );
-        }
+        tally.add(&kind, numbers.len(), kind.count * plan.size);
     }
-    // where the comparer has given up, nobody needs the rest
-    let _ = sender.send(batch);
+    sender.send(batch).ok()?;
+    Some(tally)
 }
 
-/// The numbers of a family's networks that a run goes through.
-pub fn numbers(plan: &Plan, family: &Family) -> std::iter::StepBy<std::ops::Range<usize>> {
-    let all = match &plan.only {
-        Some((name, number)) if name == family.name => *number..number + 1,
-        Some(_) => 0..0,
-        None => 0..family.count * plan.size,
-    };
-    all.step_by(plan.every)
+/// The numbers of a kind's networks that a run goes through.
+fn numbers(plan: &Plan, kind: &Kind) -> Vec<usize> {
+    match &plan.only {
+        Some((name, number)) if *name == kind.name => vec![*number],
+        Some(_) => Vec::new(),
+        None => {
+            let mut random = Random::for_kind(plan.seed, &kind.name);
+            taken(kind.count * plan.size, plan.every, &mut random)
+        }
+    }
 }
 
 fn compare_all(plan: &Plan, batches: Receiver<Vec<Case>>) -> (usize, usize) {
@@ -114,6 +115,10 @@ fn compare_all(plan: &Plan, batches: Receiver<Vec<Case>>) -> (usize, usize) {
         for (case, answer) in batch.iter().zip(&answers) {
             compared += 1;
             differences += check(plan, case, answer, differences);
+            if differences == plan.until {
+                driver.stop();
+                return (compared, differences);
+            }
         }
         if answers.len() < batch.len() {
             // the driver ended within the batch, and its last answers with it: one call at a time
@@ -162,7 +167,7 @@ fn show(plan: &Plan, case: &Case, found: &str) {
     let calls = call_names(plan);
     println!(
         "again with: --calls {calls} --seed {} --only {}:{}\n",
-        plan.seed, case.family, case.number
+        plan.seed, case.kind, case.number
     );
 }
 
