@@ -1,7 +1,7 @@
 # Sourced by what a user runs, ./list and the commands in examples/: where their text comes from, and the proof of what they need. A thing that was proved
 # is used as it is as long as the sources and the kit are those it was proved with; else it is proved again, by one command at a time.
 #
-# Before: `root` is the repository, `command` the name under which the command speaks. Exit statuses from 3 on mean the same in all commands:
+# Before: `root` is the repository, `command` the name under which the command speaks. Exit statuses 3 to 5 mean the same in all commands:
 # 3 what it needs could not be proved and built, 4 there is no text to read, 5 what it has to print is not printed whole.
 
 say() {
