@@ -1,8 +1,10 @@
 # Sourced by the scripts that build or run programs: sets what that takes on this machine. The library and the programs are x86-64 code. On any other
 # machine Debian's cross compiler builds what is linked with the library, and the emulator of the Rattle kit runs it.
 #
-# Before: `fail` is a function that says why and leaves. After: `machine`, `emulator` (empty where none is needed), `compiler`, `symbols`.
-command -v rt >/dev/null || fail "rt, the Rattle toolchain, is not on this machine; put it on the PATH"
+# Before: `fail` is a function that says why and leaves; `without_rt` is yes where what was built can be run without rt, if the machine is an x86-64 one.
+# After: `machine`, `emulator` (empty where none is needed), `compiler`, `symbols`.
+command -v rt >/dev/null || { [ "${without_rt:-no}" = yes ] && [ "$(uname -m)" = x86_64 ]; } ||
+    fail "rt, the Rattle toolchain, is not on this machine; put it on the PATH"
 
 machine=$(uname -m)
 emulator=''
@@ -18,9 +20,9 @@ if [ "$machine" != x86_64 ]; then
 fi
 
 # Runs in the place of this script a program that rt linked, which wants the kit's own C library where the machine has none for x86-64.
-run_linked() { # PROGRAM
-    if [ -z "$emulator" ]; then exec "$1"; fi
-    exec "$emulator" "$tools/lib/ld-linux-x86-64.so.2" --library-path "$tools/lib" "$1"
+run_linked() { # PROGRAM [WORDS...]
+    if [ -z "$emulator" ]; then exec "$@"; fi
+    exec "$emulator" "$tools/lib/ld-linux-x86-64.so.2" --library-path "$tools/lib" "$@"
 }
 
 can_compile() { # FOLDER
