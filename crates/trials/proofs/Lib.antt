@@ -7,3 +7,4 @@ pub mod Table
 pub mod Answers
 pub mod Rejected
 pub mod WrongRules
+pub mod WrongWords
