@@ -117,3 +117,20 @@ pub lowest-return-on-top : (mesh-count (tree-in k4 .live) 6 (ends-of K4) (order-
     × (mesh-count (tree-in k4 .live) 6 (ends-of K4) (clockwise (tree-in k4) (fan-so (tree-in k4)) LRL) ≡ 2)
 unfolding both either least count from keep gather insert sort lowest-on touches other higher lower climb aboveb returnb returns low free lowest-free take-line leave go step run start finished high more top bottom highestb lowestb line-side leaving rank nested fan discovered incoming beside clockwise opposite leave-by follow-in turned next-direction mesh-count side-of sides written
 lowest-return-on-top = (refl, refl)
+
+-- Company: the right lines that come in before a tree line, the left ones after it. It gives K4 two meshes for LLL, not four.
+
+abbrev LLL : ℕ → ℕ
+LLL = choice k4 "LLL"
+
+abbrev turned-round : Tree → ℕ → List ℕ
+turned-round S v =
+    cond (eqb (S .height v) 0) [] (S .parent v ∷ [])
+    ++ gather
+    (λ e. cond (S .tree e) (incoming S (fan S LLL) (is-right LLL) v e ++ (e ∷ incoming S (fan S LLL) (is-left LLL) v e)) (e ∷ []))
+    (fan S LLL v)
+
+pub company-turned-round : (mesh-count (tree-in k4 .live) 6 (ends-of K4) (order-at (tree-in k4) LLL) ≡ 4)
+    × (mesh-count (tree-in k4 .live) 6 (ends-of K4) (turned-round (tree-in k4)) ≡ 2)
+unfolding both either least count from keep gather insert sort lowest-on touches other higher lower climb aboveb returnb returns low free lowest-free take-line leave go step run start finished high more top highestb line-side leaving rank nested fan discovered incoming beside clockwise opposite leave-by follow-in turned next-direction mesh-count side-of sides written
+company-turned-round = (refl, refl)
