@@ -3,6 +3,7 @@ pub mod TextBack
 pub mod Accepted
 pub mod Calls
 pub mod Trials
+pub mod Refuted
 pub mod Places
 pub mod Filling
 pub mod Reading

@@ -11,3 +11,4 @@ pub mod Answers
 pub mod Rejected
 pub mod WrongRules
 pub mod WrongRows
+pub mod WrongWords
