@@ -30,5 +30,7 @@ build_driver() { # PROGRAM [OPTION...]
         fail "the driver was not built"
 }
 
-rustc -O --edition 2021 -o "$built/second" "$tests/second/main.rs" || fail "the second program was not built"
+if [ ! -x "$built/second" ] || [ -n "$(find "$tests/second" -newer "$built/second" | head -n 1)" ]; then
+    rustc -O --edition 2021 -o "$built/second" "$tests/second/main.rs" || fail "the second program was not built"
+fi
 "$built/second" --self-test || fail "the second program does not give the known answers"

@@ -72,7 +72,7 @@ pub const LEAST: usize = 16;
 /// are drawn by lot and not by a step, which could keep to what its remainder has.
 pub fn taken(all: usize, every: usize, random: &mut Random) -> Vec<usize> {
     let mut numbers: Vec<usize> = (0..all).collect();
-    let wanted = all.div_ceil(every).max(LEAST);
+    let wanted = (all / every + 1).max(LEAST);
     if wanted < all {
         random.shuffle(&mut numbers);
         numbers.truncate(wanted);

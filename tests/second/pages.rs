@@ -57,7 +57,9 @@ pub fn run(plan: &Plan) -> i32 {
             }
         }
     }
-    println!("pages of each kind:\n{}", tally.shown());
+    if plan.only.is_none() {
+        println!("pages of each kind:\n{}", tally.shown());
+    }
     println!("{compared} pages compared, {differences} differences");
     match (compared, differences) {
         (0, _) => 2,

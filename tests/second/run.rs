@@ -52,7 +52,7 @@ pub fn run(plan: &Plan) -> i32 {
             .expect("the comparing thread ends by itself");
         (tally, found)
     });
-    if let Some(tally) = tally {
+    if let (Some(tally), None) = (tally, &plan.only) {
         println!("networks of each kind:\n{}", tally.shown());
     }
     println!("{compared} calls compared, {differences} differences");
