@@ -20,7 +20,7 @@ few='' few_pages=''
 if [ -n "$emulator" ]; then few='--every 8' few_pages='--every 80'; fi
 
 build_archive() {
-    (cd "$root" && rt staticlib cornetariel) || fail "the library was not proved, so there is nothing to compare"
+    (cd "$root" && flock crates.txt rt staticlib cornetariel) || fail "the library was not proved, so there is nothing to compare"
 }
 
 build_driver() { # PROGRAM [OPTION...]

@@ -13,13 +13,16 @@ pub fn answer_all() {
     let mut rules = Rules::new();
     let mut bytes = Vec::new();
     while let Ok(next) = read_request(&mut input) {
-        let Some(request) = next else {
-            output
-                .write_all(&bytes)
-                .and_then(|()| output.flush())
-                .expect("the asker reads the answers");
-            bytes.clear();
-            continue;
+        let request = match next {
+            Some(request) => request,
+            None => {
+                output
+                    .write_all(&bytes)
+                    .and_then(|()| output.flush())
+                    .expect("the asker reads the answers");
+                bytes.clear();
+                continue;
+            }
         };
         put_answer(&mut bytes, request.call, &answer(&mut rules, &request));
     }

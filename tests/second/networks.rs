@@ -212,8 +212,9 @@ fn turn_diagonal(planar: &mut Network, triangles: &mut [[usize; 3]], line: usize
             .into_iter()
             .find(|&corner| corner != first && corner != second)
     };
-    let (Some(one_tip), Some(other_tip)) = (tip(beside[0]), tip(beside[1])) else {
-        return;
+    let (one_tip, other_tip) = match (tip(beside[0]), tip(beside[1])) {
+        (Some(one_tip), Some(other_tip)) => (one_tip, other_tip),
+        _ => return,
     };
     if one_tip == other_tip || joins(planar, one_tip, other_tip) {
         return;

@@ -37,8 +37,9 @@ pub fn run(plan: &Plan) -> i32 {
         for place in taken {
             let (number, input) = &inputs[place];
             compared += 1;
-            let Some(fault) = fault_of_page(plan, &mut rules, input) else {
-                continue;
+            let fault = match fault_of_page(plan, &mut rules, input) {
+                Some(fault) => fault,
+                None => continue,
             };
             differences += 1;
             if differences <= MOST_SHOWN {

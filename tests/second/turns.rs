@@ -131,10 +131,13 @@ pub fn turn_fault(
     }
     let outer = outer_mesh(network, order, mesh)?;
     for line in (0..network.lines.len()).filter(|&line| choice[line] != TREE) {
-        let Some(cycle) = cycle(network, &up, line) else {
-            return Some(format!(
-                "neither end of back line {line} is above the other"
-            ));
+        let cycle = match cycle(network, &up, line) {
+            Some(cycle) => cycle,
+            None => {
+                return Some(format!(
+                    "neither end of back line {line} is above the other"
+                ))
+            }
         };
         let left = left_hand(mesh, &walks, &cycle);
         if cycle

@@ -87,17 +87,17 @@ small-draw n ends choice order mesh sizes order′ mesh′ sizes′ a o =
 
 pub small-write : (n : ℕ) (ends text text′ : List ℕ) (a : Answer) → Write n ends text a text′ → Small a
 small-write n ends text text′ a o =
-    checked-elim n ends (ltb (length text) (room (length ends / 2))) (λ k. (a ≡ refused k) × (text′ ≡ text))
+    checked-elim n ends (ltb (length text) (room (length ends / 2))) (Untouched text a text′)
     ((a ≡ done (room (length ends / 2)) 0) × (text′ ≡ filled (room (length ends / 2)) (text-of n ends) text)) o
-    (λ k some few (u : (a ≡ refused k) × (text′ ≡ text)). small-is (u .0) (small-refused k (omega arith)))
+    (λ k some few (u : Untouched text a text′ k). small-is (u .answers) (small-refused k (omega arith)))
     (λ f c g. small-is (g .0) (small-done (room (length ends / 2)) 0 (omega (arith, f .few-lines)) (omega arith)))
 
 pub small-read : (text ends ends′ : List ℕ) (a : Answer) → Read text ends a ends′ → Small a
-small-read text ends ends′ a (inl (t, u)) = small-is (u .0) (small-refused 1 (omega arith))
-small-read text ends ends′ a (inr (one, inl (t, u))) = small-is (u .0) (small-refused 2 (omega arith))
-small-read text ends ends′ a (inr (one, inr (two, inl (t, u)))) = small-is (u .0) (small-refused 3 (omega arith))
-small-read text ends ends′ a (inr (one, inr (two, inr (three, inl (t, u))))) = small-is (u .0) (small-refused 4 (omega arith))
-small-read text ends ends′ a (inr (one, inr (two, inr (three, inr (four, inl (t, u)))))) = small-is (u .0) (small-refused 5 (omega arith))
+small-read text ends ends′ a (inl (t, u)) = small-is (u .answers) (small-refused 1 (omega arith))
+small-read text ends ends′ a (inr (one, inl (t, u))) = small-is (u .answers) (small-refused 2 (omega arith))
+small-read text ends ends′ a (inr (one, inr (two, inl (t, u)))) = small-is (u .answers) (small-refused 3 (omega arith))
+small-read text ends ends′ a (inr (one, inr (two, inr (three, inl (t, u))))) = small-is (u .answers) (small-refused 4 (omega arith))
+small-read text ends ends′ a (inr (one, inr (two, inr (three, inr (four, inl (t, u)))))) = small-is (u .answers) (small-refused 5 (omega arith))
 small-read text ends ends′ a (inr (one, inr (two, inr (three, inr (four, inr (five, inl (c, g))))))) =
     let s = sized (vertices-in text) (2 * lines-in text) (false-is _ two) in
     small-is (g .0) (small-done (vertices-in text) (lines-in text) (omega (arith, s .1)) (omega (arith, s .2)))
@@ -105,7 +105,7 @@ small-read text ends ends′ a (inr (one, inr (two, inr (three, inr (four, inr (
     false-is : (b : Bool) → (b ≡ true → ⊥) → b ≡ false
     false-is true d = absurd (d refl)
     false-is false d = refl
-small-read text ends ends′ a (inr (one, inr (two, inr (three, inr (four, inr (five, inr (c, u))))))) = small-is (u .0) (small-refused 6 (omega arith))
+small-read text ends ends′ a (inr (one, inr (two, inr (three, inr (four, inr (five, inr (c, u))))))) = small-is (u .answers) (small-refused 6 (omega arith))
 
 pub packed-by : (says : Answer → Type 0) (a : Answer) (r : ℕ) → says a → Small a → r ≡ packed a → Packed says r
 packed-by says a r s p e = record { answer = a; allowed = s; parts = p; packs = e }

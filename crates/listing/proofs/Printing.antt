@@ -12,7 +12,7 @@ use lib.Seq.{length-take-le}
 use Rattle.laws.proofs.Filling.{filled-long}
 use Rattle.laws.proofs.Cases.{cases, bool, true-false}
 use Rattle.network.specs.Network.{network, Connected}
-use Rattle.network.specs.Numbers.{refused, oversize, mispaired, Accepted}
+use Rattle.network.specs.Numbers.{refused, Untouched, oversize, mispaired, Accepted}
 use Rattle.network.specs.declared.Answer.{Answer}
 use Rattle.network.proofs.Checks.{sized}
 use Rattle.text.specs.Text.{vertices-in, lines-in, ends-in, has-form}
@@ -52,8 +52,8 @@ module _ (input ends : List ℕ) (long : length ends ≡ 4096) (short : length i
   says : (r .number ≡ 0 → ⊥) → Prints input (answer-line (r .number))
   says z = go d
     where
-      line : {k : ℕ} → (r ≡ refused k) × (ends′ ≡ ends) → answer-line (r .number) ≡ answer-line k
-      line x = ap answer-line (number-is (x .0))
+      line : {k : ℕ} → Untouched ends r ends′ k → answer-line (r .number) ≡ answer-line k
+      line x = ap answer-line (number-is (x .answers))
 
       go : Read input ends r ends′ → Prints input (answer-line (r .number))
       go (inl (f, x)) = inr (not-long, inl (f, line x))
