@@ -1,15 +1,14 @@
 -- Every answer packs: its number is below 16, and its counts are counts of a network within the limits.
-use mathlib.Core.Bool.{Bool, true, false}
 use mathlib.Core.List.{List}
 use mathlib.Core.Logic.{inl, inr}
-use mathlib.Core.Path.{_≡_, refl, sym, subst}
+use mathlib.Core.Path.{_≡_, sym, subst}
 use Prim.Native.Nat.{ℕ, _*_, _/_, _≤_, _<_}
 use native.Mathlib.Omega.{arith}
 use lib.Dec.{ltb}
 use lib.ListN.{length, take, length-take}
 use Rattle.laws.specs.Checks.{check}
 use Rattle.laws.specs.Lists.{filled, at}
-use Rattle.laws.proofs.Cases.{cases}
+use Rattle.laws.proofs.Cases.{cases, false-when}
 use Rattle.laws.proofs.Counting.{many-le}
 use Rattle.network.specs.Network.{Network, network}
 use Rattle.network.specs.Numbers.{refused, done, Untouched, triple, pair}
@@ -99,12 +98,8 @@ small-read text ends ends′ a (inr (one, inr (two, inl (t, u)))) = small-is (u 
 small-read text ends ends′ a (inr (one, inr (two, inr (three, inl (t, u))))) = small-is (u .answers) (small-refused 4 (omega arith))
 small-read text ends ends′ a (inr (one, inr (two, inr (three, inr (four, inl (t, u)))))) = small-is (u .answers) (small-refused 5 (omega arith))
 small-read text ends ends′ a (inr (one, inr (two, inr (three, inr (four, inr (five, inl (c, g))))))) =
-    let s = sized (vertices-in text) (2 * lines-in text) (false-is _ two) in
+    let s = sized (vertices-in text) (2 * lines-in text) (false-when _ two) in
     small-is (g .0) (small-done (vertices-in text) (lines-in text) (omega (arith, s .1)) (omega (arith, s .2)))
-  where
-    false-is : (b : Bool) → (b ≡ true → ⊥) → b ≡ false
-    false-is true d = absurd (d refl)
-    false-is false d = refl
 small-read text ends ends′ a (inr (one, inr (two, inr (three, inr (four, inr (five, inr (c, u))))))) = small-is (u .answers) (small-refused 6 (omega arith))
 
 pub packed-by : (says : Answer → Type 0) (a : Answer) (r : ℕ) → says a → Small a → r ≡ packed a → Packed says r

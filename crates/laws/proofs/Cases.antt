@@ -18,6 +18,10 @@ bool false = inr refl
 pub true-false {ℓ} : {A : Type ℓ} {b : Bool} → b ≡ true → b ≡ false → A
 true-false p q = let z : _≡_ {A = ℕ} 0 1 = cc in absurd (omega arith)
 
+pub false-when : (b : Bool) → (b ≡ true → ⊥) → b ≡ false
+false-when true d = absurd (d refl)
+false-when false d = refl
+
 pub eq-or : (a b : ℕ) → (a ≡ b) ⊎ (a ≡ b → ⊥)
 eq-or a b = elim (ℕ-discrete a b) [ yes e ↦ inl e | no n ↦ inr n ]
 

@@ -2,7 +2,7 @@
 use mathlib.Core.Bool.{Bool, true, false}
 use mathlib.Core.List.{List}
 use mathlib.Core.Logic.{inl, inr}
-use mathlib.Core.Path.{_≡_, refl, sym, _∙_}
+use mathlib.Core.Path.{_≡_, sym, _∙_}
 use native.Mathlib.Omega.{arith}
 use Prim.Native.Nat.{ℕ, _/_, _≤_, _<_}
 use lib.Dec.{eqb}
@@ -10,7 +10,7 @@ use lib.ListN.{length}
 use borrow.Author.Tests.{eq-eqb, le-ltb, eqb-true}
 use Rattle.laws.specs.Tests.{both, either, all}
 use Rattle.laws.specs.Lists.{Agree}
-use Rattle.laws.proofs.Cases.{cases, bool, true-false}
+use Rattle.laws.proofs.Cases.{cases, bool, true-false, false-when}
 use Rattle.laws.proofs.Tests.{both-yes, both-of, either-first, either-second, either-of, either-no, either-neither, all-of, all-yes}
 use Rattle.network.specs.Network.{network}
 use Rattle.network.specs.Numbers.{Checked, Accepted}
@@ -55,10 +55,6 @@ module _ (n : ℕ) (ends : List ℕ) where
       granted (inr (_, inr (_, inr (_, inr (_, inr (c, x)))))) = absurd (c (a .connected))
 
   -- a result that is no refusal: the network is accepted, there was room, and it is what is granted
-  false-when : (b : Bool) → (b ≡ true → ⊥) → b ≡ false
-  false-when true d = absurd (d refl)
-  false-when false d = refl
-
   pub passed : {short : Bool} {R : ℕ → Type 0} {G : Type 0} → ((k : ℕ) → 0 < k → R k → ⊥) → Checked n ends short R G → Accepted n ends × (short ≡ false) × G
   passed f (inl (t, x)) = absurd (f 2 (omega arith) x)
   passed f (inr (_, inl (t, x))) = absurd (f 3 (omega arith) x)

@@ -1,6 +1,6 @@
 -- Swapping the ends of lines changes nothing in the search. The machine asks of a line only which vertices it touches and what its other end is, and
 -- both are the same either way round; and the tree goes by which end is higher, where no line is level. So the two networks leave one tree.
-use mathlib.Core.Bool.{Bool, true, false, cond}
+use mathlib.Core.Bool.{true, cond}
 use mathlib.Core.List.{List}
 use mathlib.Core.Logic.{_⊎_, inl, inr}
 use mathlib.Core.Path.{_≡_, refl, sym, ap, _∙_}
@@ -10,6 +10,7 @@ use lib.Dec.{eqb, ltb}
 use lib.ListN.{getD, length, List·getD-eq-default}
 use borrow.Author.Tests.{lt-ltb, le-ltb}
 use Rattle.laws.proofs.Cases.{cases, lt-or}
+use Rattle.laws.proofs.Tests.{same-test}
 use Rattle.network.specs.Network.{Network, network-of, first, second, touches, other, joins, Path, here, along, Connected}
 use Rattle.network.specs.Inside.{Fit}
 use Rattle.network.proofs.Pairs.{joins-as-given, joins-turned, joins-of}
@@ -33,12 +34,6 @@ pub record Swapped (ends ends′ : List ℕ) : Type 0 where
 pub line-back : (ends ends′ : List ℕ) (k : ℕ) → SameLine ends ends′ k → SameLine ends′ ends k
 line-back ends ends′ k (inl (a, b)) = inl (sym a, sym b)
 line-back ends ends′ k (inr (a, b)) = inr (sym b, sym a)
-
--- two tests with the same outcome
-same-test : (a b : Bool) → (a ≡ true → b ≡ true) → (b ≡ true → a ≡ true) → a ≡ b
-same-test true b f g = sym (f refl)
-same-test false true f g = g refl
-same-test false false f g = refl
 
 -- A line, seen from a vertex
 

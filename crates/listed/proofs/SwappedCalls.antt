@@ -1,6 +1,6 @@
 -- Swapping the ends of lines changes nothing that orient, first choice and next choice answer, nor the clockwise order: each call makes the same checks
 -- and goes by the same tree. (The numbers of the meshes may change: they go by the directions of lines.)
-use mathlib.Core.Bool.{Bool, true, false}
+use mathlib.Core.Bool.{Bool, true}
 use mathlib.Core.List.{List}
 use mathlib.Core.Logic.{_⊎_, inl, inr}
 use mathlib.Core.Path.{_≡_, sym, ap, _∙_, subst}
@@ -14,7 +14,8 @@ use Rattle.laws.specs.Counting.{many}
 use Rattle.laws.specs.Lists.{at, filled, Kept}
 use Rattle.laws.specs.Dictionary.{First, Next}
 use Rattle.laws.specs.Tests.{either}
-use Rattle.laws.proofs.Cases.{cases, bool, lt-or}
+use Rattle.laws.proofs.Cases.{cases, false-when, lt-or}
+use Rattle.laws.proofs.Checks.{check-map}
 use Rattle.laws.proofs.Tests.{either-first, either-second, either-of, any-of, any-yes}
 use Rattle.network.specs.Network.{network, network-of, first, second, joins, Connected}
 use Rattle.network.specs.Numbers.{done, oversize, odd, astray, looped, doubled, mispaired, Checked, Untouched, pair, triple}
@@ -37,14 +38,6 @@ use Rattle.drawing.specs.Draw.{Draw, clockwise-in, cramped-draw, Balanced, Drew
 use Rattle.listed.proofs.Swapped.{SameLine, Swapped, line-back, joins-same, connected-same, finished-same, tree-same}
 
 -- Checks
-
--- a check of the same, with what follows from each outcome
-check-map : {P P′ A A′ B B′ : Type 0} → (P → P′) → (P′ → P) → (P → A → A′) → ((P → ⊥) → B → B′) → check P A B → check P′ A′ B′
-check-map to fro f g (inl (p, a)) = inl (to p, f p a)
-check-map to fro f g (inr (d, b)) = inr (λ p. d (fro p), g d b)
-
-false-when : (b : Bool) → (b ≡ true → ⊥) → b ≡ false
-false-when b d = cases (bool b) (λ t. absurd (d t)) (λ f. f)
 
 -- 4, line by line: an end of line k is no vertex
 abbrev Astray : ℕ → List ℕ → ℕ → Type 0

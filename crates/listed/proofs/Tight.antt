@@ -43,11 +43,13 @@ module _ (n : ℕ) (ends choice : List ℕ) (r r′ : Answer) (c c′ : List ℕ
 
 -- First choice
 
--- Two results with 7: the choice is as it was in both, each has a ring of fork constraints, and nothing but the ring is open: where the rings are the
+-- Two results with 7: the count is 0 and the choice is as it was in both, each has a ring of fork constraints, and nothing but the ring is open: where the rings are the
 -- same, all is.
 pub record BothRinged (net : Network) (choice : List ℕ) (r r′ : Answer) (c c′ l l′ k k′ : List ℕ) : Type 0 where
   pub number : r .number ≡ 7
   pub number′ : r′ .number ≡ 7
+  pub count : r .count ≡ 0
+  pub count′ : r′ .count ≡ 0
   pub same-choice : c ≡ choice
   pub same-choice′ : c′ ≡ choice
   pub ring : Ring (Constraint (tree-in net)) (r .second) (at l) (at k)
@@ -77,6 +79,8 @@ module _ (n : ℕ) (ends choice lines kinds : List ℕ) (r r′ : Answer) (c c�
       inr (record {
         number = ap (λ (x : Answer). x .number) (a .answers);
         number′ = ap (λ (x : Answer). x .number) (b .answers);
+        count = ap (λ (x : Answer). x .count) (a .answers);
+        count′ = ap (λ (x : Answer). x .count) (b .answers);
         same-choice = a .same-choice;
         same-choice′ = b .same-choice;
         ring = rw (ap (λ (x : Answer). x .second) (a .answers)) (a .ring);

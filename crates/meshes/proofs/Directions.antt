@@ -39,9 +39,6 @@ other-way-twice d =
 pub other-way-half : (d : ℕ) → other-way d / 2 ≡ d / 2
 other-way-half d = cases (parity d) (λ e. rw (other-way-even d e) (omega arith)) (λ e. rw (other-way-odd d e) (omega arith))
 
-pub other-way-other : (d : ℕ) → other-way d ≡ d → ⊥
-other-way-other d q = cases (parity d) (λ e. omega (arith, other-way-even d e)) (λ e. omega (arith, other-way-odd d e))
-
 pub other-way-below : (d m : ℕ) → d < 2 * m → other-way d < 2 * m
 other-way-below d m h = cases (parity d) (λ e. rw (other-way-even d e) (omega arith)) (λ e. rw (other-way-odd d e) (omega arith))
 

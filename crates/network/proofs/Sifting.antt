@@ -1,26 +1,22 @@
 -- What passed checks 2 to 5 can be searched; and the checks of a call, put together from those that its code has made.
 use mathlib.Core.Bool.{Bool, true, false}
 use mathlib.Core.List.{List}
-use mathlib.Core.Logic.{_⊎_, inl, inr, _≢_}
+use mathlib.Core.Logic.{inl, inr}
 use mathlib.Core.Path.{_≡_, refl, sym, ap, _∙_}
-use Prim.Native.Nat.{ℕ, _+_, _*_, _/_, _≤_, _<_}
+use Prim.Native.Nat.{ℕ, _≤_, _<_}
 use native.Mathlib.Omega.{arith}
-use lib.ListN.{getD, length}
+use lib.ListN.{length}
 use Rattle.laws.specs.Tests.{either}
 use Rattle.laws.specs.Checks.{check}
-use Rattle.laws.proofs.Cases.{cases, true-false}
+use Rattle.laws.proofs.Cases.{cases, true-false, false-when}
 use Rattle.laws.proofs.Checks.{check-once}
-use Rattle.laws.proofs.Tests.{either-first, either-second, either-of, either-neither, either-no}
-use Rattle.network.specs.Network.{Network, network, first, second, Connected}
-use Rattle.network.specs.Numbers.{refused, Untouched, triple, pair, oversize, odd, astray, looped, mispaired, Formed, Checked, Sifted}
+use Rattle.laws.proofs.Tests.{either-first, either-of}
+use Rattle.network.specs.Network.{network, Connected}
+use Rattle.network.specs.Numbers.{refused, Untouched, triple, pair, oversize, odd, astray, mispaired, Checked, Sifted}
 use Rattle.network.specs.Inside.{Fit}
 use Rattle.network.specs.declared.Answer.{Answer}
 use Rattle.network.proofs.Checks.{sized, even, none-astray}
 use Rattle.network.proofs.Pairs.{none-looped, loop-yes}
-
-false-when : (b : Bool) → (b ≡ true → ⊥) → b ≡ false
-false-when true d = absurd (d refl)
-false-when false d = refl
 
 pub fit-when : (n : ℕ) (ends : List ℕ) → oversize n (length ends) ≡ false → odd (length ends) ≡ false → astray n ends ≡ false → mispaired ends ≡ false → Fit (network n ends)
 fit-when n ends two three four five =

@@ -18,13 +18,14 @@ refused k = record { number = k; count = 0; second = 0 }
 abbrev pub done : ℕ → ℕ → Answer
 done a b = record { number = 0; count = a; second = b }
 
--- A refusal answers its number, and changes nothing: what was lent, be it one buffer, two or three, is left as it was.
+-- Two buffers that were lent, and three.
 abbrev pub pair : List ℕ → List ℕ → List ℕ × List ℕ
 pair a b = (a, b)
 
 abbrev pub triple : List ℕ → List ℕ → List ℕ → List ℕ × List ℕ × List ℕ
 triple a b c = (a, b, c)
 
+-- A refusal answers its number, and changes nothing: what was lent, be it one buffer, two or three, is left as it was.
 pub record Untouched {A : Type 0} (lent : A) (r : Answer) (left : A) (k : ℕ) : Type 0 where
   pub answers : r ≡ refused k
   pub same : left ≡ lent

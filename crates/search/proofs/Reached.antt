@@ -1,16 +1,14 @@
 -- The search finds just the vertices that a path reaches: the found ones are closed under lines, and each stands on a path to vertex 0. So every
 -- vertex is found exactly where the network is connected.
-use mathlib.Core.Bool.{Bool, true, false, not}
+use mathlib.Core.Bool.{true, false, not}
 use mathlib.Core.List.{List}
-use mathlib.Core.Logic.{_⊎_, inl, inr, _≢_}
+use mathlib.Core.Logic.{_≢_}
 use mathlib.Core.Path.{_≡_, refl, sym, ap, _∙_, subst}
-use Prim.Native.Nat.{ℕ, zero, suc, _+_, _*_, _≤_, _<_}
+use Prim.Native.Nat.{ℕ, zero, suc, _+_, _≤_, _<_}
 use native.Mathlib.Omega.{arith}
-use lib.Dec.{eqb}
 use lib.ListN.{getD}
-use borrow.Author.Tests.{eq-eqb, ne-eqb, eqb-false, not-true}
-use Rattle.laws.specs.Tests.{all}
-use Rattle.laws.proofs.Cases.{cases, eq-or, true-false}
+use borrow.Author.Tests.{ne-eqb, eqb-false, not-true}
+use Rattle.laws.proofs.Cases.{cases, eq-or, true-false, false-when}
 use Rattle.laws.proofs.Tests.{all-yes, all-of}
 use Rattle.network.specs.Network.{Network, touches, other, joins, Path, here, along, Connected}
 use Rattle.network.specs.Inside.{Fit}
@@ -19,9 +17,9 @@ use Rattle.network.proofs.Lines.{touches-other, joins-other, joins-is, joins-to
 use Rattle.search.specs.Machine.{State, finished}
 use Rattle.search.specs.Inside.{everyone}
 use Rattle.search.proofs.Steps.{Found, free-yes}
-use Rattle.search.proofs.Sound.{Sound, below}
+use Rattle.search.proofs.Sound.{below}
 use Rattle.search.proofs.Halts.{finished-halts}
-use Rattle.search.proofs.Deep.{Deep, finished-both}
+use Rattle.search.proofs.Deep.{finished-both}
 
 -- The test, as a loop over the vertices
 
@@ -46,11 +44,7 @@ module _ (n : ℕ) (fs : List ℕ) where
   everyone-yes f = all-yes _ n (λ v h. ap not (ne-eqb (getD fs v 0) 0 (f v h)))
 
   pub everyone-not : (v : ℕ) → v < n → getD fs v 0 ≡ 0 → everyone n fs ≡ false
-  everyone-not v h z = decide (everyone n fs) (λ e. everyone-of e v h z)
-    where
-      decide : (b : Bool) → (b ≡ true → ⊥) → b ≡ false
-      decide true d = absurd (d refl)
-      decide false d = refl
+  everyone-not v h z = false-when (everyone n fs) (λ e. everyone-of e v h z)
 
   pub reaching-done : (v : ℕ) → Reaching n fs v → n ≤ v → true ≡ everyone n fs
   reaching-done v r h = sym (everyone-yes (λ u l. r .found u (omega arith)))
