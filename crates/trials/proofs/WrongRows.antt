@@ -1,5 +1,5 @@
 -- Rows that would be wrong: what each claims is not true. The test of its claim is computed and fails, and a claim that is true passes its test.
-use mathlib.Core.Bool.{false}
+use mathlib.Core.Bool.{true, false}
 use mathlib.Core.List.{List, [], _∷_}
 use mathlib.Core.Path.{_≡_, refl, ap}
 use Prim.Native.Nat.{ℕ}
@@ -17,8 +17,8 @@ use Rattle.tree.specs.Tree.{higher, lower, climb, aboveb}
 use Rattle.tree.specs.Returns.{returnb, returns, low}
 use Rattle.search.specs.Machine.{tree-in, free, lowest-free, take-line, leave, go, step, run, start, finished}
 use Rattle.fork.specs.Ends.{lowestb, high, more, top, highestb}
-use Rattle.fork.specs.Fork.{forkb, groupb, sameb, differentb, levelb, wherever, legalb, alignedb}
-use Rattle.fork.proofs.Rule.{aligned-yes}
+use Rattle.fork.specs.Fork.{Legal, forkb, groupb, sameb, differentb, levelb, wherever, legalb, alignedb}
+use Rattle.fork.proofs.Rule.{legal-of, aligned-yes}
 use Rattle.fans.specs.Fan.{side-of as line-side, leaving, rank, nested, fan}
 use Rattle.clockwise.specs.Order.{discovered, incoming, beside, clockwise}
 use Rattle.drawing.specs.Draw.{clockwise-in}
@@ -49,6 +49,15 @@ not-aligned-so = refl
 
 pub RLL-not-aligned : True k4 (next-is "RLL" "RLR") → ⊥
 RLL-not-aligned q = true-false (aligned-yes (tree-in k4) (choice k4 "RLL") (q .2 .aligned)) not-aligned-so
+
+-- (it is legal: what it fails is alignment)
+
+legal-so : legalb (tree-in k4) (choice k4 "RLL") ≡ true
+unfolding both either all any count from keep touches other higher lower climb aboveb returnb returns low free lowest-free take-line leave go step run start finished forkb groupb sameb differentb wherever legalb side-named sides written
+legal-so = refl
+
+pub RLL-legal : Legal (tree-in k4) (choice k4 "RLL")
+RLL-legal = legal-of (tree-in k4) (choice k4 "RLL") legal-so
 
 -- A ring with an even number of different, on K3,3; and on K5 one that goes on to a line with no constraint to it
 

@@ -111,6 +111,15 @@ S2 =
     trial 5 ((0, 2) ∷ (4, 1) ∷ (3, 1) ∷ (3, 0) ∷ (0, 4) ∷ (1, 0) ∷ (4, 3) ∷ (1, 2) ∷ (4, 2) ∷ [])
     (granted (back-lines-are (2 ∷ 3 ∷ 4 ∷ 5 ∷ 8 ∷ []) ∷ choices-are ("LLLLR" ∷ "LRRRR" ∷ "RLLLL" ∷ "RRRRL" ∷ []) ∷ []))
 
+-- The returns of line 2 that end lowest come alone, and each back line is free: were the highest lined up, lines 4 and 5 would have to agree.
+abbrev pub S4 : Trial
+S4 =
+    trial 5 ((0, 1) ∷ (1, 2) ∷ (2, 3) ∷ (3, 4) ∷ (3, 1) ∷ (4, 1) ∷ (4, 0) ∷ [])
+    (granted
+    (back-lines-are (4 ∷ 5 ∷ 6 ∷ [])
+    ∷ choices-are ("LLL" ∷ "LLR" ∷ "LRL" ∷ "LRR" ∷ "RLL" ∷ "RLR" ∷ "RRL" ∷ "RRR" ∷ [])
+    ∷ []))
+
 -- K4 with its pairs in dictionary order: lines 1 and 2 come in to vertex 0 by their discovery, and not as they nest.
 abbrev pub K4-by-pairs : List (ℕ × ℕ)
 K4-by-pairs = (0, 1) ∷ (0, 2) ∷ (0, 3) ∷ (1, 2) ∷ (1, 3) ∷ (2, 3) ∷ []
@@ -142,4 +151,5 @@ trials =
     ∷ two-triangles-renumbered
     ∷ S2
     ∷ S3
+    ∷ S4
     ∷ []
