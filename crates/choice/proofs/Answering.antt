@@ -50,7 +50,7 @@ use Rattle.grouping.specs.Inside.{Sorted, all-kept, one-torn, Grouping}
 use Rattle.grouping.specs.declared.Groups.{Groups}
 use Rattle.ties.specs.declared.Tie.the-variants.{Holds, Tears}
 use Rattle.ties.proofs.Tying.{link-back}
-use Rattle.choice.proofs.Proper.{proper-obeys, obeys-proper, none-proper, ring-constraints}
+use Rattle.choice.proofs.Proper.{proper-obeys, obeys-proper, none-drawable, none-proper, ring-constraints}
 
 -- What a search with the number 0 leaves
 
@@ -152,6 +152,9 @@ module _ (S : Tree) (X : Searched S) (r : Groups) (g : Grouping S r) where
       where
         go : Sorted S t (Tears b d k) → Together S t × Unkept S t b d k
         go (one-torn q u) = (q, u)
+
+    pub torn-none : Drawable S → ⊥
+    torn-none = none-drawable S X t (torn-by .0) b d k (torn-by .1)
 
     pub torn-improper : (c : ℕ → ℕ) → Proper S c → ⊥
     torn-improper = none-proper S X t (torn-by .0) b d k (torn-by .1)

@@ -14,13 +14,14 @@ use Rattle.tree.proofs.Searched.{Searched}
 use Rattle.fork.specs.Fork.{Aligned, Constraint}
 use Rattle.fork.specs.Link.{Link, turned}
 use Rattle.fork.proofs.Rule.{back-yes, back-of}
+use Rattle.fork.proofs.Aligning.{none-legal}
 use Rattle.fork.proofs.Links.{aligned-links, links-aligned}
 use Rattle.fork.proofs.Rings.{Tied, link-tied, ring-step, ring-close}
 use Rattle.groups.specs.Constraints.{Between, More, Satisfies}
 use Rattle.groups.specs.Groups.{Tables}
 use Rattle.groups.proofs.Groups.{conflict}
 use Rattle.rings.specs.Ring.{Ring, oddb, ringb}
-use Rattle.choice.specs.Choice.{Proper}
+use Rattle.choice.specs.Choice.{Drawable, Proper}
 use Rattle.ties.specs.Inside.{Closed, Taken, Together, Unkept}
 use Rattle.ties.proofs.Tying.{link-back}
 
@@ -62,6 +63,9 @@ module _ (S : Tree) (X : Searched S) (t : Tables) (g : Together S t) where
         let e = link-back S (r .link) in
         conflict (S .lines) (backb S) (Taken S t) t g b d k (e .0) (e .1) (r .together) (r .odd) side
         (λ x y z m. cases m (λ p. aligned-links S side a x y z (p .0)) (λ q. rw (q .0, q .1, q .2) (aligned-links S side a b d k (r .link))))
+
+    pub none-drawable : Drawable S → ⊥
+    none-drawable q = none-legal S X none-aligned (q .0) (q .1)
 
     pub none-proper : (c : ℕ → ℕ) → Proper S c → ⊥
     none-proper c p = none-aligned c (p .aligned)
