@@ -100,7 +100,7 @@ fn in_two_numberings(
 
 /// Networks that docs/RULES.md speaks of, numbered as there, and some that tell slips apart.
 fn named() -> Vec<Kind> {
-    let shapes: [Shape; 11] = [
+    let shapes: [Shape; 12] = [
         ("vertex", |_| complete(1)),
         ("line", |_| complete(2)),
         ("triangle", |_| Network::of_ends(3, &[0, 1, 1, 2, 2, 0])),
@@ -120,6 +120,9 @@ fn named() -> Vec<Kind> {
             Network::of_ends(5, &[0, 2, 4, 1, 3, 1, 3, 0, 0, 4, 1, 0, 4, 3, 1, 2, 4, 2])
         }),
         ("k4-by-pairs", |_| complete(4)),
+        ("highest-free", |_| {
+            Network::of_ends(5, &[0, 1, 1, 2, 2, 3, 3, 4, 3, 1, 4, 1, 4, 0])
+        }),
     ];
     shapes
         .iter()

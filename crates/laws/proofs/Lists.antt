@@ -1,4 +1,4 @@
--- Laws of lists: what passes a test, what holds of all members, of all pairs of members, the least and the greatest.
+-- Laws of lists: what passes a test, what holds of all members, of all pairs of members, and the least.
 use mathlib.Core.Bool.{Bool, true, false}
 use mathlib.Core.List.{List, [], _∷_, _++_, reverse, reverse-cons, map, foldr}
 use mathlib.Core.Logic.{_⊎_, inl, inr, _≢_}

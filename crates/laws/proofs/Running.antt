@@ -1,4 +1,4 @@
--- What a loop finds is what the list of those that pass has: its least, its greatest; and the best is the first that none beats. By the steps of the
+-- What a loop finds is what the list of those that pass has: its least; and the best is the first that none beats. By the steps of the
 -- loop, each an equation.
 use mathlib.Core.Bool.{Bool, true, false}
 use mathlib.Core.List.{map, foldr}

@@ -1,6 +1,6 @@
 // The network that every call is given: its limits, the answer with its number, and checks 2 to 5.
 //
-// Its contracts cite specs/Network.antt and specs/Numbers.antt.
+// Its contracts cite specs/Numbers.antt and specs/Inside.antt.
 pub mod copies;
 
 ghost use mathlib.Core.Path.{_≡_};

@@ -129,7 +129,7 @@ pub record Climbed (lines d n : ℕ) (r : Reach) (p i : ℕ) (line : ℕ → ℕ
   pub later : (s : ℕ) → s < i → (1 < r .place (line s)) × (r .place (line s) ≤ n)
   pub along : (s : ℕ) → s < i → line (suc s) ≡ r .queue (r .via (r .place (line s) - 1))
 
--- All of them: n lines.
+-- All of them: k lines.
 pub record Trail (lines d n : ℕ) (r : Reach) (k : ℕ) (line : List ℕ) : Type 0 where
   pub last-place : ℕ
   pub is-last : suc last-place ≡ k

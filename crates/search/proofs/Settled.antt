@@ -1,4 +1,4 @@
--- From the recursive walk to the machine's end, and from the checks to the call: what `settle`, `explore` and `orient` return.
+-- From the recursive walk to the machine's end: what `settle` returns.
 use mathlib.Core.Bool.{Bool, true, false}
 use mathlib.Core.List.{List}
 use mathlib.Core.Logic.{inl, inr}

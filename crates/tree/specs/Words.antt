@@ -1,4 +1,4 @@
--- The words of a tree as propositions.
+-- The words of a tree as propositions. (docs/RULES.md, "Returns and lows".)
 use mathlib.Core.Bool.{Bool, true, false}
 use mathlib.Core.Logic.{_⊎_}
 use mathlib.Core.Path.{_≡_}

@@ -130,10 +130,10 @@ unfolding tripsb tripb
 left-not-clockwise order mesh sizes order′ mesh′ sizes′ r room x outer on-left on-right inside t =
     let m = take 6 mesh′ in
     let row = both-of (answered 2 .1 .1 .1 .0 order mesh sizes order′ mesh′ sizes′ r room x) in
-    let right-hand : getD m up-line-2 0 ≡ 1 = eqb-true _ 1 (both-of (both-of (row .0) .0) .1) in
+    let right-hand : getD m up-line-2 0 ≡ 1 = eqb-true _ 1 (both-of (both-of (both-of (row .0) .1) .0) .1) in
     let is-outer : outer-mesh triangle (take 6 order′) m ≡ 1 = eqb-true _ 1 (row .1) in
     let so = both-of t in
     let outer-is : outer-mesh triangle (take 6 order′) m ≡ outer = eqb-true _ outer (so .1) in
-    outer-on-left m outer walked-back inside up-line-2 (both-of (so .0) .1)
+    outer-on-left m outer walked-back inside up-line-2 (both-of (both-of (so .0) .1) .1)
     (cases (lt-or up-line-2 (length m)) (λ h. h) (λ h. absurd (omega (arith, List·getD-eq-default m 0 {n = up-line-2} h))))
     (right-hand ∙ sym is-outer ∙ outer-is) (omega (arith, taken .0, taken .1))

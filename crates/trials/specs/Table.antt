@@ -1,4 +1,4 @@
--- The table of trials: P1 to P12, two triangles on one line, and two that catch slips. (docs/RULES.md, "Worked examples".)
+-- The table of trials: P1 to P12, two triangles on one line, and three that catch slips. (docs/RULES.md, "Worked examples".)
 use mathlib.Core.List.{List, [], _∷_}
 use Prim.Native.Nat.{ℕ}
 use Rattle.side.specs.Sides.{same, different}

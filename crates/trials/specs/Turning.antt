@@ -9,7 +9,7 @@ use Rattle.laws.specs.Tests.{both, either, all}
 use Rattle.laws.specs.Counting.{many}
 use Rattle.laws.specs.Lists.{keep, upto}
 use Rattle.tree.specs.Tree.{Tree}
-use Rattle.tree.specs.Returns.{end}
+use Rattle.tree.specs.Returns.{end, backb}
 use Rattle.meshes.specs.Meshes.{other-way, leave-by}
 
 pub data WayRound : Type 0 where
@@ -17,7 +17,7 @@ pub data WayRound : Type 0 where
   clockwise : WayRound
 
 -- What may be said of the round trip of a back line: the line; the meshes on its left hand and on its right hand, where it is walked down; which way the
--- trip turns; and the meshes inside.
+-- trip turns; and those of the network's meshes that are inside.
 pub data Trip : Type 0 where
   trip : ℕ → ℕ → ℕ → WayRound → List ℕ → Trip
 
@@ -54,8 +54,9 @@ walked clockwise way = map other-way way
 -- By an order and the mesh of each direction: this is the outer mesh, and the round trips are as they are said to be.
 unfoldable pub tripb : Tree → List ℕ → ℕ → List ℕ → Trip → Bool
 tripb S ends outer mesh (trip b on-left on-right way inside) =
-    both (both (eqb (getD mesh (along S ends b) 0) on-left) (eqb (getD mesh (other-way (along S ends b)) 0) on-right))
-    (encircles mesh outer (walked way (round-trip S ends b)) inside)
+    both (backb S b)
+    (both (both (eqb (getD mesh (along S ends b) 0) on-left) (eqb (getD mesh (other-way (along S ends b)) 0) on-right))
+    (encircles mesh outer (walked way (round-trip S ends b)) inside))
 
 unfoldable pub tripsb : Tree → List ℕ → ℕ → List Trip → List ℕ → List ℕ → Bool
 tripsb S ends outer [] order mesh = eqb (outer-mesh ends order mesh) outer
