@@ -18,4 +18,3 @@ pub mod Gathering
 pub mod Agreeing
 pub mod Lengths
 pub mod Keeping
-pub mod Eachwise

@@ -1,19 +1,14 @@
--- What a loop finds is what the list of those that pass has: its least; and the best is the first that none beats. By the steps of the
--- loop, each an equation.
+-- What a loop finds is what the list of those that pass has: its least. By the steps of the loop, each an equation.
 use mathlib.Core.Bool.{Bool, true, false}
 use mathlib.Core.List.{map, foldr}
 use mathlib.Core.Logic.{_⊎_, inl, inr, _≢_}
-use mathlib.Core.Path.{_≡_, refl, _∙_, ap, subst}
+use mathlib.Core.Path.{_≡_, refl, ap, subst}
 use Prim.Native.Nat.{ℕ, zero, suc, _+_, _≤_, _<_, min}
 use native.Mathlib.Omega.{arith}
-use lib.Dec.{leb}
-use borrow.Author.Tests.{le-leb, lt-leb}
-use Rattle.laws.specs.Tests.{either}
 use Rattle.laws.specs.Counting.{many}
 use Rattle.laws.specs.Lists.{from, keep}
-use Rattle.laws.specs.Running.{minimum, best}
-use Rattle.laws.proofs.Cases.{cases, bool, true-false, eq-or, lt-or}
-use Rattle.laws.proofs.Tests.{both-yes, both-no-first, both-no-second, either-first, either-second, either-no}
+use Rattle.laws.specs.Running.{minimum}
+use Rattle.laws.proofs.Cases.{cases, bool, eq-or, lt-or}
 use Rattle.laws.proofs.Lists.{all-keep, all-kept, all-both, all-many, from-in, from-all, min-le, min-in, min-most}
 use Rattle.laws.proofs.Occurring.{many-keep-yes}
 
@@ -79,76 +74,3 @@ module _ (p : ℕ → Bool) (g : ℕ → ℕ) (z : ℕ) where
       let b : minimum p g z n ≤ foldr min z (map g l) =
       cases (min-in g z l) (λ r. let q = kept-of p n (r .0) (r .1) in omega (arith, minimum-le n (r .0) (q .0) (q .1), r .2)) (λ e. omega (arith, minimum-most n)) in
       omega arith
-
--- The best
-
--- k is the first of the numbers below n that pass that none of them beats
-pub record Best (p : ℕ → Bool) (beats : ℕ → ℕ → Bool) (n k : ℕ) : Type 0 where
-  pub below : k < n
-  pub passes : p k ≡ true
-  pub unbeaten : (j : ℕ) → j < n → p j ≡ true → beats j k ≡ false
-  pub first : (j : ℕ) → j < k → p j ≡ true → beats k j ≡ true
-
-module _ (p : ℕ → Bool) (beats : ℕ → ℕ → Bool) (m : ℕ) where
-  pub best-pass : (n : ℕ) → p n ≡ false → best p beats m (suc n) ≡ best p beats m n
-  unfolding best
-  best-pass n f = rw (both-no-first (p n) (either (leb m (best p beats m n)) (beats n (best p beats m n))) f)
-
-  pub best-start : (n : ℕ) → p n ≡ true → m ≤ best p beats m n → best p beats m (suc n) ≡ n
-  unfolding best
-  best-start n t h = rw (both-yes t (either-first (leb m (best p beats m n)) (beats n (best p beats m n)) (le-leb m (best p beats m n) h)))
-
-  pub best-beaten : (n : ℕ) → p n ≡ true → beats n (best p beats m n) ≡ true → best p beats m (suc n) ≡ n
-  unfolding best
-  best-beaten n t h = rw (both-yes t (either-second (leb m (best p beats m n)) (beats n (best p beats m n)) h))
-
-  pub best-stays : (n : ℕ) → best p beats m n < m → beats n (best p beats m n) ≡ false → best p beats m (suc n) ≡ best p beats m n
-  unfolding best
-  best-stays n h f = rw (both-no-second (p n) (either (leb m (best p beats m n)) (beats n (best p beats m n))) (either-no (lt-leb m (best p beats m n) h) f))
-
-  module _ (strict : (i j : ℕ) → beats i j ≡ true → beats j i ≡ false)
-      (chain : (i j k : ℕ) → beats i k ≡ true → beats j k ≡ false → beats i j ≡ true) where
-    self : (k : ℕ) → beats k k ≡ false
-    self k = cases (bool (beats k k)) (λ t. strict k k t) (λ f. f)
-
-    pub best-is : (n : ℕ) → n ≤ m → Best p beats n (best p beats m n) ⊎ ((best p beats m n ≡ m) × ((j : ℕ) → j < n → p j ≡ false))
-    best-is zero h = inr (unfold best in refl, λ j g. absurd (omega arith))
-    best-is (suc n) h =
-        cases (bool (p n))
-        (λ t.
-        cases (best-is n (omega arith))
-        (λ r.
-        cases (bool (beats n (best p beats m n)))
-        (λ y. inl (rw (best-beaten n t y)
-        (record {
-          below = omega arith;
-          passes = t;
-          unbeaten = λ j g u.
-              cases (eq-or j n) (λ e. rw e (self n))
-              (λ d. let d′ : j ≢ n = d in strict n j (chain n j (best p beats m n) y (r .unbeaten j (omega arith) u)));
-          first = λ j g u. chain n j (best p beats m n) y (r .unbeaten j g u);
-        })))
-        (λ y. inl (rw (best-stays n (omega (arith, r .below)) y)
-        (record {
-          below = omega (arith, r .below);
-          passes = r .passes;
-          unbeaten = λ j g u. cases (eq-or j n) (λ e. rw e y) (λ d. let d′ : j ≢ n = d in r .unbeaten j (omega arith) u);
-          first = r .first;
-        }))))
-        (λ r. inl (rw (best-start n t (omega (arith, r .0)))
-        (record {
-          below = omega arith;
-          passes = t;
-          unbeaten = λ j g u. cases (eq-or j n) (λ e. rw e (self n)) (λ d. let d′ : j ≢ n = d in true-false u (r .1 j (omega arith)));
-          first = λ j g u. true-false u (r .1 j g);
-        }))))
-        (λ f.
-        cases (best-is n (omega arith))
-        (λ r. inl (rw (best-pass n f)
-        (record {
-          below = omega (arith, r .below);
-          passes = r .passes;
-          unbeaten = λ j g u. cases (eq-or j n) (λ e. true-false u (rw e f)) (λ d. let d′ : j ≢ n = d in r .unbeaten j (omega arith) u);
-          first = r .first;
-        })))
-        (λ r. inr (best-pass n f ∙ r .0, λ j g. cases (eq-or j n) (λ e. rw e f) (λ d. let d′ : j ≢ n = d in r .1 j (omega arith)))))

@@ -12,7 +12,7 @@ use Rattle.laws.proofs.Cases.{cases, true-false, false-when}
 use Rattle.laws.proofs.Checks.{check-once}
 use Rattle.laws.proofs.Tests.{either-first, either-of}
 use Rattle.network.specs.Network.{network, Connected}
-use Rattle.network.specs.Numbers.{refused, Untouched, triple, pair, oversize, odd, astray, mispaired, Checked, Sifted}
+use Rattle.network.specs.Numbers.{refused, Untouched, triple, pair, oversize, odd, astray, mispaired, Formed, Checked, Sifted}
 use Rattle.network.specs.Inside.{Fit}
 use Rattle.network.specs.declared.Answer.{Answer}
 use Rattle.network.proofs.Checks.{sized, even, none-astray}
@@ -79,6 +79,20 @@ module _ (n : ℕ) (ends : List ℕ) (short : Bool) (R : ℕ → Type 0) (G : Ty
   refuse-rest three (inr (two, inr (odd, inr (four, inl (t, a))))) f g = inr (two, inr (λ x. true-false x three, inr (four, inl (t, f 5 (omega arith) a))))
   refuse-rest three (inr (two, inr (odd, inr (four, inr (five, inl (c, a)))))) f g = inr (two, inr (λ x. true-false x three, inr (four, inr (five, inl (c, g a)))))
   refuse-rest three (inr (two, inr (odd, inr (four, inr (five, inr (c, a)))))) f g = inr (two, inr (λ x. true-false x three, inr (four, inr (five, inr (c, f 6 (omega arith) a)))))
+
+-- other things may be said of the refusals and of what is granted
+pub formed-map : (n : ℕ) (ends : List ℕ) {R : ℕ → Type 0} {G : Type 0} → Formed n ends R G → (R′ : ℕ → Type 0) (G′ : Type 0)
+    → ((k : ℕ) → 0 < k → R k → R′ k) → (G → G′) → Formed n ends R′ G′
+formed-map n ends (inl (p, a)) R′ G′ f g = inl (p, f 4 (omega arith) a)
+formed-map n ends (inr (p, inl (q, a))) R′ G′ f g = inr (p, inl (q, f 5 (omega arith) a))
+formed-map n ends (inr (p, inr (q, inl (c, a)))) R′ G′ f g = inr (p, inr (q, inl (c, g a)))
+formed-map n ends (inr (p, inr (q, inr (c, a)))) R′ G′ f g = inr (p, inr (q, inr (c, f 6 (omega arith) a)))
+
+pub checked-map : (n : ℕ) (ends : List ℕ) (short : Bool) {R : ℕ → Type 0} {G : Type 0} → Checked n ends short R G → (R′ : ℕ → Type 0) (G′ : Type 0)
+    → ((k : ℕ) → 0 < k → R k → R′ k) → (G → G′) → Checked n ends short R′ G′
+checked-map n ends short (inl (p, a)) R′ G′ f g = inl (p, f 2 (omega arith) a)
+checked-map n ends short (inr (p, inl (q, a))) R′ G′ f g = inr (p, inl (q, f 3 (omega arith) a))
+checked-map n ends short (inr (p, inr (q, a))) R′ G′ f g = inr (p, inr (q, formed-map n ends a R′ G′ f g))
 
 -- What follows from each refusal, and from what is granted to a well-formed network, follows.
 pub checked-elim : (n : ℕ) (ends : List ℕ) (short : Bool) (R : ℕ → Type 0) (G : Type 0) {C : Type 0} → Checked n ends short R G → ((k : ℕ) → 0 < k → k ≤ 6 → R k → C)

@@ -2,7 +2,7 @@
 use mathlib.Core.Bool.{Bool, true, false}
 use mathlib.Core.List.{List}
 use mathlib.Core.Logic.{_⊎_, inl, inr, _≢_}
-use mathlib.Core.Path.{_≡_, sym, ap, _∙_, subst}
+use mathlib.Core.Path.{_≡_, refl, sym, ap, _∙_, subst}
 use Prim.Native.Nat.{ℕ, _+_, _*_, _-_, _/_, _≤_, _<_}
 use native.Mathlib.Omega.{arith}
 use lib.Dec.{ltb}
@@ -16,41 +16,48 @@ use Rattle.network.specs.Network.{Network, network, Connected}
 use Rattle.network.specs.Numbers.{refused, done, oversize, odd, Checked, Sifted, Untouched, pair}
 use Rattle.network.specs.Inside.{Fit}
 use Rattle.network.specs.declared.Answer.{Answer}
-use Rattle.network.proofs.Sifting.{sift-fit, sift-refused, sift-connected, refuse-2, refuse-3, refuse-rest, checked-elim, checked-once, untouched, two-untouched-once}
-use Rattle.search.specs.Orient.{Orient, Oriented, cramped, Explored, unsearched, searched, back-lines}
-use Rattle.search.specs.Inside.{Ended}
-use Rattle.search.specs.declared.Search.{Search}
+use Rattle.network.proofs.Sifting.{sift-fit, sift-refused, sift-connected, refuse-2, refuse-3, refuse-rest, checked-map, checked-elim, checked-once, untouched, two-untouched-once}
+use Rattle.search.specs.Orient.{Orient, Oriented, cramped, back-lines}
+use Rattle.search.specs.Inside.{Search, search-of, Explored, Faulted, searched, Ended}
 use Rattle.search.proofs.Deep.{finished-both}
 use Rattle.search.proofs.Grows.{backs-counted}
 
 -- explore
 
 module _ (n : ℕ) (ends : List ℕ) (k : ℕ) (s : Sifted n ends k) where
-  pub explore-sifted : (k ≡ 0 → ⊥) → (r : Search) → r ≡ unsearched k → Explored n ends r
-  explore-sifted d r e = sift-refused n ends k s d (λ j. r ≡ unsearched j) (r ≡ searched (network n ends)) e
+  pub explore-sifted : (k ≡ 0 → ⊥) → (ks hs ps : List ℕ) → Explored n ends (search-of k ks hs ps)
+  explore-sifted d ks hs ps = sift-refused n ends k s d (λ j. k ≡ j) (search-of k ks hs ps ≡ searched (network n ends)) refl
 
   module _ (z : k ≡ 0) where
     pub explore-fit : Fit (network n ends)
     explore-fit = sift-fit n ends k s z
 
-    pub explore-apart : (q : Search) → Ended (network n ends) q → (q .number ≡ 0 → ⊥) → (r : Search) → r ≡ unsearched 6 → Explored n ends r
-    explore-apart q (inl (c, e)) d r u = absurd (d (ap (λ (x : Search). x .number) e))
-    explore-apart q (inr (c, e)) d r u = sift-connected n ends k s z (λ j. r ≡ unsearched j) (r ≡ searched (network n ends)) (inr (c, u))
+    pub explore-settled : (r : Search) → Ended (network n ends) r → Explored n ends r
+    explore-settled r e = sift-connected n ends k s z (λ j. r .number ≡ j) (r ≡ searched (network n ends)) e
 
-    pub explore-found : (r : Search) → Ended (network n ends) r → r .number ≡ 0 → Explored n ends r
-    explore-found r (inl (c, e)) y = sift-connected n ends k s z (λ j. r ≡ unsearched j) (r ≡ searched (network n ends)) (inl (c, e))
-    explore-found r (inr (c, e)) y = absurd (omega arith)
+pub explore-faulted : (n : ℕ) (ends : List ℕ) (r : ℕ) (ks hs ps : List ℕ) → Explored n ends (search-of r ks hs ps) → Faulted n ends r
+explore-faulted n ends r ks hs ps x =
+    checked-map n ends false x (λ k. r ≡ k) (r ≡ 0) (λ k some u. u)
+    (λ (g : search-of r ks hs ps ≡ searched (network n ends)). ap (λ (q : Search). q .number) g)
+
+-- a network with the number 0 is well formed
+pub faultless : (n : ℕ) (ends : List ℕ) (r : ℕ) → Faulted n ends r → r ≡ 0 → Fit (network n ends) × Connected (network n ends)
+faultless n ends r x z =
+    checked-elim n ends false (λ k. r ≡ k) (r ≡ 0) x (λ k some few e. absurd (omega arith)) (λ f c e. (f, c))
 
 -- a search with the number 0 is that of a connected network
 pub explored : (n : ℕ) (ends : List ℕ) (r : Search) → Explored n ends r → r .number ≡ 0 → Fit (network n ends) × Connected (network n ends) × (r ≡ searched (network n ends))
 explored n ends r x z =
-    checked-elim n ends false (λ k. r ≡ unsearched k) (r ≡ searched (network n ends)) x
-    (λ k some few (e : r ≡ unsearched k). absurd (let y : r .number ≡ k = ap (λ (q : Search). q .number) e in omega arith))
+    checked-elim n ends false (λ k. r .number ≡ k) (r ≡ searched (network n ends)) x
+    (λ k some few (e : r .number ≡ k). absurd (omega arith))
     (λ f c e. (f, c, e))
 
 -- orient
 
-module _ (n : ℕ) (ends : List ℕ) (q : Search) (x : Explored n ends q) (z : q .number ≡ 0) where
+module _ (n : ℕ) (ends : List ℕ) (number : ℕ) (ks hs ps : List ℕ) (x : Explored n ends (search-of number ks hs ps)) (z : number ≡ 0) where
+  abbrev q : Search
+  q = search-of number ks hs ps
+
   found : Fit (network n ends) × Connected (network n ends) × (q ≡ searched (network n ends))
   found = explored n ends q x z
 
@@ -62,15 +69,17 @@ module _ (n : ℕ) (ends : List ℕ) (q : Search) (x : Explored n ends q) (z : q
   orient-fits = omega (arith, counted)
 
   -- the tables are long enough
-  pub orient-lines : length ends / 2 ≤ length (q .kinds)
-  orient-lines =
-      let long : length (q .kinds) ≡ 2048 = ap (λ (y : Search). length (y .kinds)) (found .2) ∙ finished-both (network n ends) (found .0) .0 .kinds-long in
-      omega (arith, found .0 .few-lines)
+  pub orient-kinds : length ks ≡ 2048
+  orient-kinds = ap (λ (y : Search). length (y .kinds)) (found .2) ∙ finished-both (network n ends) (found .0) .0 .kinds-long
 
-  pub orient-vertices : n ≤ length (q .heights)
-  orient-vertices =
-      let long : length (q .heights) ≡ 512 = ap (λ (y : Search). length (y .heights)) (found .2) ∙ finished-both (network n ends) (found .0) .0 .heights-long in
-      omega (arith, found .0 .few-vertices)
+  pub orient-heights : length hs ≡ 512
+  orient-heights = ap (λ (y : Search). length (y .heights)) (found .2) ∙ finished-both (network n ends) (found .0) .0 .heights-long
+
+  pub orient-lines : length ends / 2 ≤ length ks
+  orient-lines = omega (arith, orient-kinds, found .0 .few-lines)
+
+  pub orient-vertices : n ≤ length hs
+  orient-vertices = omega (arith, orient-heights, found .0 .few-vertices)
 
 module _ (n : ℕ) (ends ks hs : List ℕ) (two : Bool) (is-two : two ≡ oversize n (length ends)) where
   abbrev short : Bool
@@ -98,24 +107,27 @@ module _ (n : ℕ) (ends ks hs : List ℕ) (two : Bool) (is-two : two ≡ oversi
       unfolding cramped
       orient-few-heights l = orient-3 (either-second _ _ (either-second _ _ (lt-ltb _ _ l)))
 
-      module _ (not-three : three ≡ false) (kinds-room : length ends / 2 ≤ length ks) (heights-room : n ≤ length hs) (q : Search) (x : Explored n ends q) where
+      module _ (not-three : three ≡ false) (kinds-room : length ends / 2 ≤ length ks) (heights-room : n ≤ length hs) (number : ℕ) (kt ht pt : List ℕ) (x : Explored n ends (search-of number kt ht pt)) where
+        abbrev given : Search
+        given = search-of number kt ht pt
+
         enough : either (odd (length ends)) short ≡ false
         unfolding cramped
         enough = either-no (sym is-three ∙ not-three) (either-no (le-ltb _ _ kinds-room) (le-ltb _ _ heights-room))
 
-        pub orient-refused : (q .number ≡ 0 → ⊥) → (r : Answer) → r ≡ refused (q .number) → Orient n ends ks hs r ks hs
+        pub orient-refused : (number ≡ 0 → ⊥) → (r : Answer) → r ≡ refused number → Orient n ends ks hs r ks hs
         orient-refused d r e =
             refuse-rest n ends short (Untouched (pair ks hs) r (pair ks hs)) (Oriented (network n ends) ks hs r ks hs) enough x
-            (λ k some (u : q ≡ unsearched k). untouched (e ∙ ap refused (ap (λ (y : Search). y .number) u)))
-            (λ (g : q ≡ searched (network n ends)). absurd (d (ap (λ (y : Search). y .number) g)))
+            (λ k some (u : number ≡ k). untouched (e ∙ ap refused u))
+            (λ (g : given ≡ searched (network n ends)). absurd (d (ap (λ (y : Search). y .number) g)))
 
-        pub orient-done : q .number ≡ 0 → (r : Answer) (ks′ hs′ : List ℕ) → r ≡ done (length ends / 2 + 1 - n) 0
-            → ks′ ≡ filled (length ends / 2) (q .kinds) ks → hs′ ≡ filled n (q .heights) hs → Orient n ends ks hs r ks′ hs′
+        pub orient-done : number ≡ 0 → (r : Answer) (ks′ hs′ : List ℕ) → r ≡ done (length ends / 2 + 1 - n) 0
+            → ks′ ≡ filled (length ends / 2) kt ks → hs′ ≡ filled n ht hs → Orient n ends ks hs r ks′ hs′
         orient-done z r ks′ hs′ e a b =
-            let backs : length ends / 2 + 1 - n ≡ back-lines (network n ends) = omega (arith, counted n ends q x z) in
+            let backs : length ends / 2 + 1 - n ≡ back-lines (network n ends) = omega (arith, counted n ends number kt ht pt x z) in
             refuse-rest n ends short (Untouched (pair ks hs) r (pair ks′ hs′)) (Oriented (network n ends) ks hs r ks′ hs′) enough x
-            (λ k some (u : q ≡ unsearched k). absurd (let y : q .number ≡ k = ap (λ (v : Search). v .number) u in omega arith))
-            (λ (g : q ≡ searched (network n ends)). record {
+            (λ k some (u : number ≡ k). absurd (omega arith))
+            (λ (g : given ≡ searched (network n ends)). record {
               answers = e ∙ ap (λ (y : ℕ). done y 0) backs;
               each-kind = a ∙ ap (λ (y : Search). filled (length ends / 2) (y .kinds) ks) g;
               each-height = b ∙ ap (λ (y : Search). filled n (y .heights) hs) g;

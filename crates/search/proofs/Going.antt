@@ -10,14 +10,15 @@ use lib.ListN.{getD, set, length, length-set}
 use lib.Seq.{getD-set-same}
 use borrow.Author.Tests.{eqb-false, eq-eqb, ne-eqb}
 use Rattle.laws.specs.Chains.{Follows, Chained}
+use Rattle.laws.specs.Lists.{at}
 use Rattle.laws.proofs.Cases.{cases, bool, eq-or, lt-or}
 use Rattle.laws.proofs.Counting.{many-take-set}
-use Rattle.network.specs.Network.{Network, network-of, first, second, touches, other}
+use Rattle.network.specs.Network.{Network, network, first, second, touches, other}
 use Rattle.network.specs.Inside.{Fit}
 use Rattle.network.specs.Marks.{unused}
 use Rattle.network.proofs.Lines.{touches-first, touches-second, touches-of, other-first, other-second, other-other, other-in}
 use Rattle.search.specs.Machine.{State, state, free, finds, run}
-use Rattle.search.specs.Inside.{Halved, partner, unfound, untaken, Ready, Enterable, Entered, Visited}
+use Rattle.search.specs.Inside.{Halved, partner, unfound, untaken, Ready, Enterable, Entered, Visited, Visitable}
 use Rattle.search.proofs.Steps.{Next, finding, meeting, retreating, Later, later-found, run-later, run-one, run-then, free-touches, free-yes, used-not-free, free-set}
 
 -- Half-lines
@@ -65,15 +66,15 @@ pub record Going (net : Network) (s : State) (ks fs hs ps : List ℕ) (h : ℕ) 
   pub upto : h ≤ 2 * net .lines
   pub at : h < 2 * net .lines → getD (net .ends) h 0 ≡ s .at
   pub past : (j : ℕ) → j < h → getD (net .ends) j 0 ≡ s .at → free (net .ends) ks (s .at) (j / 2) ≡ false
-  pub fewer-vertices : unfound (net .vertices) fs ≤ unfound (net .vertices) (s .found)
-  pub fewer-lines : untaken (net .lines) ks ≤ untaken (net .lines) (s .kind)
+  pub fewer-vertices : unfound 512 fs ≤ unfound 512 (s .found)
+  pub fewer-lines : untaken 2048 ks ≤ untaken 2048 (s .kind)
   pub still : Ready net (state (s .at) ks fs hs ps)
 
 module _ (net : Network) (fit : Fit net) (s : State) (ready : Ready net s) where
   -- that the vertex may still be visited follows from the rest
-  going : (ks fs hs ps : List ℕ) (h j : ℕ) → run net j s ≡ state (s .at) ks fs hs ps → Follows (length (net .ends)) (net .ends) (s .at) 0 h ⊎ ((h ≤ 2 * net .lines) × (h < 2 * net .lines → getD (net .ends) h 0 ≡ s .at))
+  going : (ks fs hs ps : List ℕ) (h j : ℕ) → run net j s ≡ state (s .at) ks fs hs ps → Follows (length (net .ends)) (at (net .ends)) (s .at) 0 h ⊎ ((h ≤ 2 * net .lines) × (h < 2 * net .lines → getD (net .ends) h 0 ≡ s .at))
       → ((i : ℕ) → i < h → getD (net .ends) i 0 ≡ s .at → free (net .ends) ks (s .at) (i / 2) ≡ false)
-      → unfound (net .vertices) fs ≤ unfound (net .vertices) (s .found) → untaken (net .lines) ks ≤ untaken (net .lines) (s .kind) → Going net s ks fs hs ps h
+      → unfound 512 fs ≤ unfound 512 (s .found) → untaken 2048 ks ≤ untaken 2048 (s .kind) → Going net s ks fs hs ps h
   going ks fs hs ps h j runs place past fewer less =
       let l : Later net s (state (s .at) ks fs hs ps) = subst (λ (t : State). Later net s t) runs (run-later net j s) in
       let long = fit .ends-long in
@@ -97,7 +98,7 @@ module _ (net : Network) (fit : Fit net) (s : State) (ready : Ready net s) where
         };
       }
 
-  going-start : (h : ℕ) → Follows (length (net .ends)) (net .ends) (s .at) 0 h → Going net s (s .kind) (s .found) (s .height) (s .parent) h
+  going-start : (h : ℕ) → Follows (length (net .ends)) (at (net .ends)) (s .at) 0 h → Going net s (s .kind) (s .found) (s .height) (s .parent) h
   unfolding run
   going-start h o = going (s .kind) (s .found) (s .height) (s .parent) h 0 refl (inl o) (λ i l a. absurd (o .between i (omega arith) l a)) (omega arith) (omega arith)
 
@@ -113,7 +114,7 @@ module _ (net : Network) (fit : Fit net) (s : State) (ready : Ready net s) where
         }
 
     -- One turn: on to the next half-line
-    module _ (lt : h < 2 * net .lines) (next : ℕ) (on : Follows (length (net .ends)) (net .ends) (getD (net .ends) h 0) (h + 1) next) where
+    module _ (lt : h < 2 * net .lines) (next : ℕ) (on : Follows (length (net .ends)) (at (net .ends)) (getD (net .ends) h 0) (h + 1) next) where
       abbrev k : ℕ
       k = h / 2
 
@@ -155,8 +156,8 @@ module _ (net : Network) (fit : Fit net) (s : State) (ready : Ready net s) where
         used-now : (x : ℕ) → (x ≡ unused → ⊥) → free (net .ends) (set ks k x) (s .at) k ≡ false
         used-now x d = used-not-free (net .ends) (set ks k x) (s .at) k (λ e. d (sym (getD-set-same ks k x 0 kinds-room) ∙ e))
 
-        one-less : (x : ℕ) → (x ≡ unused → ⊥) → suc (untaken (net .lines) (set ks k x)) ≡ untaken (net .lines) ks
-        one-less x d = let few = fit .few-lines in many-take-set unused x (net .lines) ks k (omega (arith, g .still .kinds-long)) k-in free-here d
+        one-less : (x : ℕ) → (x ≡ unused → ⊥) → suc (untaken 2048 (set ks k x)) ≡ untaken 2048 ks
+        one-less x d = let few = fit .few-lines in many-take-set unused x 2048 ks k (omega (arith, g .still .kinds-long)) (omega (arith, k-in)) free-here d
 
         going-back : (getD fs (other (net .ends) (s .at) k) 0 ≡ 0 → ⊥) → Going net s (set ks k 1) fs hs ps next
         going-back e =
@@ -172,10 +173,10 @@ module _ (net : Network) (fit : Fit net) (s : State) (ready : Ready net s) where
           w-in : w < net .vertices
           w-in = other-in net fit (s .at) k k-in
 
-          one-fewer : suc (unfound (net .vertices) (set fs w 1)) ≡ unfound (net .vertices) fs
+          one-fewer : suc (unfound 512 (set fs w 1)) ≡ unfound 512 fs
           one-fewer =
               let few = fit .few-vertices in
-              many-take-set 0 1 (net .vertices) fs w (omega (arith, g .still .founds-long)) w-in e (eqb-false 1 0 refl)
+              many-take-set 0 1 512 fs w (omega (arith, g .still .founds-long)) (omega (arith, w-in)) e (eqb-false 1 0 refl)
 
           -- the vertex at the far end may be visited
           going-in : Ready net (finds net (state (s .at) ks fs hs ps) k)
@@ -232,47 +233,59 @@ module _ (net : Network) (fit : Fit net) (s : State) (ready : Ready net s) where
 
 -- The same in the code's terms: h is where the loop stands on the chain, next the half-line after it.
 
-module _ {n m : ℕ} {ends : List ℕ} {v : ℕ} {ks₀ fs₀ hs₀ ps₀ : List ℕ} (ready : Ready (network-of n m ends) (state v ks₀ fs₀ hs₀ ps₀)) (fit : Fit (network-of n m ends))
-    {heads nexts : List ℕ} (chain : Chained 512 4096 (length ends) ends heads nexts) where
+module _ {ends : List ℕ} {heads nexts : List ℕ} (chain : Chained 512 4096 (length ends) (at ends) heads nexts)
+    {n v : ℕ} {ks₀ fs₀ hs₀ ps₀ : List ℕ} (a : Visitable n ends (state v ks₀ fs₀ hs₀ ps₀)) where
+  fit : Fit (network n ends)
+  fit = a .fit
+
+  ready : Ready (network n ends) (state v ks₀ fs₀ hs₀ ps₀)
+  ready = a .ready
+
+  even : length ends ≡ 2 * (length ends / 2)
+  even = fit .ends-long
+
   abbrev Loop : List ℕ → List ℕ → List ℕ → List ℕ → ℕ → Type 0
-  Loop ks fs hs ps h = Going (network-of n m ends) (state v ks₀ fs₀ hs₀ ps₀) ks fs hs ps h
+  Loop ks fs hs ps h = Going (network n ends) (state v ks₀ fs₀ hs₀ ps₀) ks fs hs ps h
 
   pub visit-start : (h : ℕ) → (h ≡ getD heads v 0) × (h < 65536) → Loop ks₀ fs₀ hs₀ ps₀ h
   visit-start h is =
       let few = fit .few-vertices in
       let in-n = ready .here in
-      going-start (network-of n m ends) fit (state v ks₀ fs₀ hs₀ ps₀) ready h (subst (λ (i : ℕ). Follows (length ends) ends v 0 i) (sym (is .0)) (chain .heads-are v (omega arith)))
+      going-start (network n ends) fit (state v ks₀ fs₀ hs₀ ps₀) ready h (subst (λ (i : ℕ). Follows (length ends) (at ends) v 0 i) (sym (is .0)) (chain .heads-are v (omega arith)))
 
   module _ {ks fs hs ps : List ℕ} {h : ℕ} (g : Loop ks fs hs ps h) where
-    pub visit-done : 2 * m ≤ h → Visited (network-of n m ends) (state v ks₀ fs₀ hs₀ ps₀) (state v ks fs hs ps)
-    visit-done l = going-done (network-of n m ends) fit (state v ks₀ fs₀ hs₀ ps₀) ready ks fs hs ps h g l
+    pub visit-done : length ends ≤ h → Visited (network n ends) (state v ks₀ fs₀ hs₀ ps₀) (state v ks fs hs ps)
+    visit-done l = going-done (network n ends) fit (state v ks₀ fs₀ hs₀ ps₀) ready ks fs hs ps h g (omega (arith, even))
 
-    module _ (lt : h < 2 * m) {next : ℕ} (is-next : (next ≡ getD nexts h 0) × (next < 65536)) where
-      on : Follows (length ends) ends (getD ends h 0) (h + 1) next
-      on = let long = fit .ends-long in subst (λ (i : ℕ). Follows (length ends) ends (getD ends h 0) (h + 1) i) (sym (is-next .0)) (chain .nexts-are h (omega arith))
+    module _ (inside : h < length ends) {next : ℕ} (is-next : (next ≡ getD nexts h 0) × (next < 65536)) where
+      lt : h < 2 * (length ends / 2)
+      lt = omega (arith, even)
 
-      pub visit-further : 2 * m - next < 2 * m - h
-      visit-further = omega (arith, on .from)
+      on : Follows (length ends) (at ends) (getD ends h 0) (h + 1) next
+      on = let long = fit .ends-long in subst (λ (i : ℕ). Follows (length ends) (at ends) (getD ends h 0) (h + 1) i) (sym (is-next .0)) (chain .nexts-are h (omega arith))
+
+      pub visit-further : length ends - next < length ends - h
+      visit-further = omega (arith, on .from, inside)
 
       pub visit-skip : (getD ks (h / 2) 0 ≡ 3 → ⊥) → Loop ks fs hs ps next
-      visit-skip d = going-skip (network-of n m ends) fit (state v ks₀ fs₀ hs₀ ps₀) ready ks fs hs ps h g lt next on (used-not-free ends ks v (h / 2) d)
+      visit-skip d = going-skip (network n ends) fit (state v ks₀ fs₀ hs₀ ps₀) ready ks fs hs ps h g lt next on (used-not-free ends ks v (h / 2) d)
 
       module _ (free-here : getD ks (h / 2) 0 ≡ 3) {w : ℕ} (is-w : (w ≡ getD ends (partner h) 0) × (w < 65536)) where
         w-is : w ≡ other ends v (h / 2)
-        w-is = is-w .0 ∙ half-other ends v h (g .at lt) (fit .apart (h / 2) (omega arith))
+        w-is = is-w .0 ∙ half-other ends v h (g .at lt) (fit .apart (h / 2) (omega (arith, lt)))
 
         visit-far : w < n
-        visit-far = subst (λ (i : ℕ). i < n) (sym w-is) (other-in (network-of n m ends) fit v (h / 2) (omega arith))
+        visit-far = subst (λ (i : ℕ). i < n) (sym w-is) (other-in (network n ends) fit v (h / 2) (omega (arith, lt)))
 
         pub visit-room : w < 512
         visit-room = let few = fit .few-vertices in omega (arith, visit-far)
 
         pub visit-back : (getD fs w 0 ≡ 0 → ⊥) → Loop (set ks (h / 2) 1) fs hs ps next
         visit-back d =
-            going-back (network-of n m ends) fit (state v ks₀ fs₀ hs₀ ps₀) ready ks fs hs ps h g lt next on free-here (λ e. d (ap (λ (j : ℕ). getD fs j 0) w-is ∙ e))
+            going-back (network n ends) fit (state v ks₀ fs₀ hs₀ ps₀) ready ks fs hs ps h g lt next on free-here (λ e. d (ap (λ (j : ℕ). getD fs j 0) w-is ∙ e))
 
         module _ (new : getD fs w 0 ≡ 0) where
-          pub visit-enter : Enterable n m v w (h / 2) ks fs hs ps
+          pub visit-enter : Enterable v w (h / 2) ks fs hs ps
           visit-enter =
               let r = g .still in
               let few = fit .few-vertices in
@@ -281,48 +294,46 @@ module _ {n m : ℕ} {ends : List ℕ} {v : ℕ} {ks₀ fs₀ hs₀ ps₀ : List
                 founds-long = r .founds-long;
                 heights-long = r .heights-long;
                 parents-long = r .parents-long;
-                few-vertices = fit .few-vertices;
-                few-lines = fit .few-lines;
-                from-in = ready .here;
-                to-in = visit-far;
-                line-in = omega arith;
+                from-in = omega (arith, ready .here);
+                to-in = visit-room;
+                line-in = omega (arith, lt, fit .few-lines);
                 low = omega (arith, r .low);
                 line-unused = free-here;
                 to-new = new;
               }
 
-          module _ {ke fe he pe : List ℕ} (x : Entered n m v w (h / 2) ks fs hs ps ke fe he pe) where
+          module _ {ke fe he pe : List ℕ} (x : Entered v w (h / 2) ks fs hs ps ke fe he pe) where
             w-new : getD fs (other ends v (h / 2)) 0 ≡ 0
             w-new = ap (λ (j : ℕ). getD fs j 0) (sym w-is) ∙ new
 
-            entered : state w ke fe he pe ≡ finds (network-of n m ends) (state v ks fs hs ps) (h / 2)
+            entered : state w ke fe he pe ≡ finds (network n ends) (state v ks fs hs ps) (h / 2)
             entered = let i = w-is in rw (x .kinds, x .founds, x .heights, x .parents, i)
 
-            pub visit-in : Ready (network-of n m ends) (state w ke fe he pe)
+            pub visit-in : Ready (network n ends) (state w ke fe he pe)
             visit-in =
-                subst (λ (u : State). Ready (network-of n m ends) u) (sym entered)
-                (going-in (network-of n m ends) fit (state v ks₀ fs₀ hs₀ ps₀) ready ks fs hs ps h g lt next on free-here w-new)
+                subst (λ (u : State). Ready (network n ends) u) (sym entered)
+                (going-in (network n ends) fit (state v ks₀ fs₀ hs₀ ps₀) ready ks fs hs ps h g lt next on free-here w-new)
 
-            pub visit-less : unfound n fe + untaken m ke < unfound n fs₀ + untaken m ks₀
+            pub visit-less : unfound 512 fe + untaken 2048 ke < unfound 512 fs₀ + untaken 2048 ks₀
             visit-less = omega (arith, x .fewer-vertices, x .fewer-lines, g .fewer-vertices, g .fewer-lines)
 
-            pub visit-deep : {ks′ fs′ hs′ ps′ : List ℕ} → Visited (network-of n m ends) (state w ke fe he pe) (state w ks′ fs′ hs′ ps′) → Loop ks′ fs′ hs′ ps′ next
+            pub visit-deep : {ks′ fs′ hs′ ps′ : List ℕ} → Visited (network n ends) (state w ke fe he pe) (state w ks′ fs′ hs′ ps′) → Loop ks′ fs′ hs′ ps′ next
             visit-deep {ks′} {fs′} {hs′} {ps′} done =
-                going-deep (network-of n m ends) fit (state v ks₀ fs₀ hs₀ ps₀) ready ks fs hs ps h g lt next on free-here w-new ks′ fs′ hs′ ps′
-                (subst (λ (u : ℕ). Visited (network-of n m ends) (finds (network-of n m ends) (state v ks fs hs ps) (h / 2)) (state u ks′ fs′ hs′ ps′)) w-is
-                (subst (λ (u : State). Visited (network-of n m ends) u (state w ks′ fs′ hs′ ps′)) entered done))
+                going-deep (network n ends) fit (state v ks₀ fs₀ hs₀ ps₀) ready ks fs hs ps h g lt next on free-here w-new ks′ fs′ hs′ ps′
+                (subst (λ (u : ℕ). Visited (network n ends) (finds (network n ends) (state v ks fs hs ps) (h / 2)) (state u ks′ fs′ hs′ ps′)) w-is
+                (subst (λ (u : State). Visited (network n ends) u (state w ks′ fs′ hs′ ps′)) entered done))
 
 -- what `enter` leaves
-pub enter-leaves : (n m v w k : ℕ) (ks fs hs ps : List ℕ) → Enterable n m v w k ks fs hs ps
-    → Entered n m v w k ks fs hs ps (set ks k 0) (set fs w 1) (set hs w (getD hs v 0 + 1)) (set ps w k)
-enter-leaves n m v w k ks fs hs ps e =
+pub enter-leaves : (v w k : ℕ) (ks fs hs ps : List ℕ) → Enterable v w k ks fs hs ps
+    → Entered v w k ks fs hs ps (set ks k 0) (set fs w 1) (set hs w (getD hs v 0 + 1)) (set ps w k)
+enter-leaves v w k ks fs hs ps e =
     record {
       kinds = refl;
       founds = refl;
       heights = refl;
       parents = refl;
-      fewer-vertices = many-take-set 0 1 n fs w (omega (arith, e .founds-long, e .few-vertices)) (e .to-in) (e .to-new) (eqb-false 1 0 refl);
-      fewer-lines = many-take-set unused 0 m ks k (omega (arith, e .kinds-long, e .few-lines)) (e .line-in) (e .line-unused) (eqb-false 0 unused refl);
+      fewer-vertices = many-take-set 0 1 512 fs w (omega (arith, e .founds-long)) (e .to-in) (e .to-new) (eqb-false 1 0 refl);
+      fewer-lines = many-take-set unused 0 2048 ks k (omega (arith, e .kinds-long)) (e .line-in) (e .line-unused) (eqb-false 0 unused refl);
     }
 
 -- the partner of a half-line
@@ -345,5 +356,7 @@ partner-in h m l =
     (λ e. rw (eq-eqb (h % 2) 0 e) (omega arith))
     (λ d. rw (ne-eqb (h % 2) 0 d) (omega arith))
 
-pub visit-half : (n m : ℕ) (ends : List ℕ) → Fit (network-of n m ends) → (h : ℕ) → h < 2 * m → Halved h ends
-visit-half n m ends fit h l = let long = fit .ends-long in record { half = omega arith; other-half = omega (arith, partner-in h m l) }
+pub visit-half : (n : ℕ) (ends : List ℕ) → Fit (network n ends) → (h : ℕ) → h < length ends → Halved h ends
+visit-half n ends fit h l =
+    let long = fit .ends-long in
+    record { half = l; other-half = omega (arith, partner-in h (length ends / 2) (omega arith)) }

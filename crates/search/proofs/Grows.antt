@@ -19,7 +19,7 @@ use Rattle.network.specs.Marks.{back}
 use Rattle.network.proofs.Lines.{touches-first, touches-of, other-first, other-second, other-in}
 use Rattle.tree.specs.Tree.{higher, lower, climb}
 use Rattle.tree.specs.Words.{Line}
-use Rattle.tree.proofs.Searched.{Searched}
+use Rattle.tree.specs.Searched.{Searched}
 use Rattle.tree.specs.Grown.{Grown}
 use Rattle.tree.proofs.Grown.{searched}
 use Rattle.search.specs.Machine.{State, finished, tree-in}

@@ -81,7 +81,7 @@ module _ (net : Network) (fit : Fit net) where
   start-left =
       let few = fit .few-lines in
       let a = home-in net start (fit .some-vertex) in
-      let b = start-unfound net fit in
+      let b = start-unfound net fit (net .vertices) (fit .some-vertex) (fit .few-vertices) in
       let c = many-le unused (take (net .lines) (replicate {A = ℕ} 2048 3)) in
       let e : length (take (net .lines) (replicate {A = ℕ} 2048 3)) ≡ net .lines =
       length-take-le (net .lines) (replicate {A = ℕ} 2048 3) (omega (arith, length-replicate {A = ℕ} 2048 3)) in

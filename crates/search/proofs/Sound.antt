@@ -165,13 +165,13 @@ module _ (net : Network) (fit : Fit net) where
   pub start-found : (v : ℕ) → v < 512 → (v ≡ 0 → ⊥) → getD (set (replicate {A = ℕ} 512 0) 0 1) v 0 ≡ 0
   start-found v h d = getD-set-other (replicate {A = ℕ} 512 0) 0 v 1 0 d ∙ getD-replicate {A = ℕ} 512 v 0 0 h
 
-  pub start-unfound : unfound (net .vertices) (set (replicate {A = ℕ} 512 0) 0 1) < net .vertices
-  start-unfound =
-      let few = fit .few-vertices in
-      let a : suc (unfound (net .vertices) (set (replicate {A = ℕ} 512 0) 0 1)) ≡ unfound (net .vertices) (replicate {A = ℕ} 512 0) =
-      many-take-set 0 1 (net .vertices) (replicate {A = ℕ} 512 0) 0 few (fit .some-vertex) refl (eqb-false 1 0 refl) in
-      let b = many-le 0 (take (net .vertices) (replicate {A = ℕ} 512 0)) in
-      let c : length (take (net .vertices) (replicate {A = ℕ} 512 0)) ≡ net .vertices = length-take-le (net .vertices) (replicate {A = ℕ} 512 0) few in
+  -- of the first n places of the table none but vertex 0 is found
+  pub start-unfound : (n : ℕ) → 0 < n → n ≤ 512 → unfound n (set (replicate {A = ℕ} 512 0) 0 1) < n
+  start-unfound n some few =
+      let a : suc (unfound n (set (replicate {A = ℕ} 512 0) 0 1)) ≡ unfound n (replicate {A = ℕ} 512 0) =
+      many-take-set 0 1 n (replicate {A = ℕ} 512 0) 0 few some refl (eqb-false 1 0 refl) in
+      let b = many-le 0 (take n (replicate {A = ℕ} 512 0)) in
+      let c : length (take n (replicate {A = ℕ} 512 0)) ≡ n = length-take-le n (replicate {A = ℕ} 512 0) few in
       omega arith
 
   pub start-sound : Sound net start
@@ -190,6 +190,6 @@ module _ (net : Network) (fit : Fit net) where
         root-found = eqb-false 1 0 refl;
         root-low = refl;
         here = λ h. eqb-false 1 0 refl;
-        low = λ h. omega (arith, start-unfound);
+        low = λ h. omega (arith, start-unfound (net .vertices) (fit .some-vertex) few);
         rooted = λ v h f z. absurd (f (start-found v (omega arith) z));
       }

@@ -1,10 +1,10 @@
 -- What orient says. (docs/RULES.md, "Orient".)
-use mathlib.Core.Bool.{Bool, false}
+use mathlib.Core.Bool.{Bool}
 use mathlib.Core.List.{List}
 use mathlib.Core.Path.{_≡_}
 use Prim.Native.Nat.{ℕ, _+_, _/_}
 use lib.Dec.{ltb}
-use lib.ListN.{length, take, replicate}
+use lib.ListN.{length, take}
 use Rattle.laws.specs.Tests.{either}
 use Rattle.laws.specs.Counting.{many}
 use Rattle.laws.specs.Lists.{filled}
@@ -13,7 +13,6 @@ use Rattle.network.specs.Numbers.{done, Checked, Untouched, pair}
 use Rattle.network.specs.declared.Answer.{Answer}
 use Rattle.network.specs.Marks.{back}
 use Rattle.search.specs.Machine.{finished}
-use Rattle.search.specs.declared.Search.{Search}
 
 -- How many back lines a network has.
 unfoldable pub back-lines : Network → ℕ
@@ -32,13 +31,3 @@ pub record Oriented (net : Network) (kinds heights : List ℕ) (r : Answer) (kin
 abbrev pub Orient : ℕ → List ℕ → List ℕ → List ℕ → Answer → List ℕ → List ℕ → Type 0
 Orient n ends kinds heights r kinds′ heights′ =
     Checked n ends (cramped n ends kinds heights) (Untouched (pair kinds heights) r (pair kinds′ heights′)) (Oriented (network n ends) kinds heights r kinds′ heights′)
-
--- What every call that needs the tree is given: the number of the network's own refusal and empty tables, or 0 and the tables of the search.
-abbrev pub unsearched : ℕ → Search
-unsearched k = record { number = k; kinds = replicate 2048 0; heights = replicate 512 0; parents = replicate 512 0 }
-
-abbrev pub searched : Network → Search
-searched net = record { number = 0; kinds = finished net .kind; heights = finished net .height; parents = finished net .parent }
-
-abbrev pub Explored : ℕ → List ℕ → Search → Type 0
-Explored n ends r = Checked n ends false (λ k. r ≡ unsearched k) (r ≡ searched (network n ends))

@@ -3,17 +3,15 @@ ghost use mathlib.Core.Path.{_≡_};
 ghost use Prim.Native.Nat.{ℕ, _+_, _*_, _≤_, _<_};
 ghost use lib.ListN.{length, getD};
 ghost use Rattle.laws.specs.Chains.{Chained};
-ghost use Rattle.network.specs.Network.{«network-of»};
-ghost use Rattle.network.specs.Inside.{Fit};
+ghost use Rattle.laws.specs.Lists.{at};
+ghost use Rattle.network.specs.Network.{network};
 ghost use Rattle.search.specs.Machine.{state};
-ghost use Rattle.search.specs.Inside.{partner, Halved, Enterable, Entered, Ready, Visited};
+ghost use Rattle.search.specs.Inside.{partner, Halved, Enterable, Entered, SomeCount, EachCount, Visitable, Visited};
 use network::Kind;
 use network::wide;
 
 // Visits v, which is found: goes along each line at v that is unused when its turn comes, the lowest number first, and returns.
 pub(crate) fn visit(
-    vertices: usize,
-    lines: usize,
     v: usize,
     ends: &[u16],
     heads: &[u16; 512],
@@ -23,33 +21,22 @@ pub(crate) fn visit(
     heights: &mut [u16; 512],
     parents: &mut [u16; 512],
 )
-    requires { ⌜ Fit (network-of vertices lines (now ends)) ⌝ }
-    requires { ⌜ Chained 512 4096 (length (now ends)) (now ends) (now heads) (now nexts) ⌝ }
-    requires { ⌜ Ready (network-of vertices lines (now ends)) (state v (now kinds) (now found) (now heights) (now parents)) ⌝ }
-    ensures { λ _. ⌜ Visited (network-of vertices lines (now (ends .entry)))
+    requires { ⌜ Chained 512 4096 (length (now ends)) (at (now ends)) (now heads) (now nexts) ⌝ }
+    requires { ⌜ SomeCount (λ n. Visitable n (now ends) (state v (now kinds) (now found) (now heights) (now parents))) ⌝ }
+    ensures { λ _. ⌜ EachCount (λ n. Visitable n (now (ends .entry)) (state v (now (kinds .entry)) (now (found .entry)) (now (heights .entry)) (now (parents .entry))))
+        (λ n. Visited (network n (now (ends .entry)))
         (state v (now (kinds .entry)) (now (found .entry)) (now (heights .entry)) (now (parents .entry)))
-        (state v (now (kinds .exit)) (now (found .exit)) (now (heights .exit)) (now (parents .exit))) ⌝ }
+        (state v (now (kinds .exit)) (now (found .exit)) (now (heights .exit)) (now (parents .exit)))) ⌝ }
 {
     let mut h = wide(heads[v]);
-    while h < 2 * lines {
+    while h < ends.len() {
         let after = wide(nexts[h]);
         let k = h / 2;
         if kinds[k] == Kind::UNUSED {
             let w = far(ends, h);
             if found[w] == 0 {
-                enter(vertices, lines, v, w, k, kinds, found, heights, parents);
-                visit(
-                    vertices,
-                    lines,
-                    w,
-                    ends,
-                    heads,
-                    nexts,
-                    kinds,
-                    found,
-                    heights,
-                    parents,
-                );
+                enter(v, w, k, kinds, found, heights, parents);
+                visit(w, ends, heads, nexts, kinds, found, heights, parents);
             } else {
                 kinds[k] = Kind::BACK;
             }
@@ -72,8 +59,6 @@ fn far(ends: &[u16], h: usize) -> usize
 
 // Goes up line k from v to w, which is new.
 fn enter(
-    vertices: usize,
-    lines: usize,
     v: usize,
     w: usize,
     k: usize,
@@ -82,8 +67,8 @@ fn enter(
     heights: &mut [u16; 512],
     parents: &mut [u16; 512],
 )
-    requires { ⌜ Enterable vertices lines v w k (now kinds) (now found) (now heights) (now parents) ⌝ }
-    ensures { λ _. ⌜ Entered vertices lines v w k (now (kinds .entry)) (now (found .entry)) (now (heights .entry)) (now (parents .entry))
+    requires { ⌜ Enterable v w k (now kinds) (now found) (now heights) (now parents) ⌝ }
+    ensures { λ _. ⌜ Entered v w k (now (kinds .entry)) (now (found .entry)) (now (heights .entry)) (now (parents .entry))
         (now (kinds .exit)) (now (found .exit)) (now (heights .exit)) (now (parents .exit)) ⌝ }
 {
     kinds[k] = Kind::TREE;

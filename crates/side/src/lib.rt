@@ -23,3 +23,12 @@ impl Side {
         Side::LEFT
     }
 }
+
+// What a constraint asks of the sides of its two lines.
+pub struct Wants {}
+
+impl Wants {
+    pub const SAME: u8 = 0;
+
+    pub const DIFFERENT: u8 = 1;
+}

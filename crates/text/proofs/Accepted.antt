@@ -33,14 +33,6 @@ pub formed-once : (n : ℕ) (ends : List ℕ) {R R′ : ℕ → Type 0} {G G′ 
     → Formed n ends R G → Formed n ends R′ G′ → C
 formed-once n ends f g = check-once (f 4) (check-once (f 5) (check-once g (f 6)))
 
--- .. and what follows from their outcomes
-pub formed-map : (n : ℕ) (ends : List ℕ) {R : ℕ → Type 0} {G : Type 0} → Formed n ends R G → (R′ : ℕ → Type 0) (G′ : Type 0)
-    → ((k : ℕ) → 0 < k → R k → R′ k) → (G → G′) → Formed n ends R′ G′
-formed-map n ends (inl (p, a)) R′ G′ f g = inl (p, f 4 (omega arith) a)
-formed-map n ends (inr (p, inl (q, a))) R′ G′ f g = inr (p, inl (q, f 5 (omega arith) a))
-formed-map n ends (inr (p, inr (q, inl (c, a)))) R′ G′ f g = inr (p, inr (q, inl (c, g a)))
-formed-map n ends (inr (p, inr (q, inr (c, a)))) R′ G′ f g = inr (p, inr (q, inr (c, f 6 (omega arith) a)))
-
 -- checks 4 to 6 are what is left of 2 to 6 where the count is within the limits and even
 pub checked-formed : (n : ℕ) (ends : List ℕ) (R : ℕ → Type 0) (G : Type 0) → Checked n ends false R G → oversize n (length ends) ≡ false → odd (length ends) ≡ false
     → Formed n ends R G

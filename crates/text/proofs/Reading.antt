@@ -17,16 +17,15 @@ use Rattle.network.specs.Network.{network}
 use Rattle.network.specs.Numbers.{refused, done, oversize, Formed, Untouched}
 use Rattle.network.specs.declared.Answer.{Answer}
 use Rattle.network.proofs.Checks.{sized}
-use Rattle.network.proofs.Sifting.{untouched}
-use Rattle.search.specs.Orient.{Explored, unsearched, searched}
-use Rattle.search.specs.declared.Search.{Search}
+use Rattle.network.proofs.Sifting.{formed-map, untouched}
+use Rattle.search.specs.Inside.{Faulted}
 use Rattle.text.specs.Text.{ends-in, has-form}
 use Rattle.text.specs.Calls.{Read}
 use Rattle.digits.specs.Inside.{Word, Number}
 use Rattle.text.specs.Inside.{Form, Parsable}
 use Rattle.text.proofs.TextBack.{form-of, length-ends-in}
 use Rattle.text.proofs.Places.{form-word}
-use Rattle.text.proofs.Accepted.{take-filled, not-odd, formed-map, checked-formed}
+use Rattle.text.proofs.Accepted.{take-filled, not-odd, checked-formed}
 
 module _ (text : List ℕ) (form : Bool) (is-form : form ≡ has-form text) where
   pub read-1 : (ends : List ℕ) → not form ≡ true → (r : Answer) → r ≡ refused 1 → Read text ends r ends
@@ -91,11 +90,11 @@ module _ (text : List ℕ) (form : Bool) (is-form : form ≡ has-form text) wher
           prefix-is : take (2 * m) taken ≡ ends-in text
           prefix-is = rw is-taken (take-filled (2 * m) (ends-in text) (replicate {A = ℕ} 4096 0) long)
 
-          module _ (q : Search) (x : Explored n (take (2 * m) taken) q) where
-            settled : Formed n (ends-in text) (λ k. q ≡ unsearched k) (q ≡ searched (network n (ends-in text)))
+          module _ (q : ℕ) (x : Faulted n (take (2 * m) taken) q) where
+            settled : Formed n (ends-in text) (λ k. q ≡ k) (q ≡ 0)
             settled =
-                checked-formed n (ends-in text) (λ k. q ≡ unsearched k) (q ≡ searched (network n (ends-in text)))
-                (subst (λ (l : List ℕ). Explored n l q) prefix-is x)
+                checked-formed n (ends-in text) (λ k. q ≡ k) (q ≡ 0)
+                (subst (λ (l : List ℕ). Faulted n l q) prefix-is x)
                 (rw long in-limits) (not-odd (length (ends-in text)) m long)
 
             module _ (roomy : 2 * m ≤ length ends) where
@@ -103,17 +102,17 @@ module _ (text : List ℕ) (form : Bool) (is-form : form ≡ has-form text) wher
                   → Read text ends r ends′
               to-settled r ends′ y = to-read r ends′ (inr (λ t. true-false t in-limits, inr (λ t. true-false t (le-ltb _ _ roomy), y)))
 
-              pub read-refused : (q .number ≡ 0 → ⊥) → (r : Answer) → r ≡ refused (q .number) → Read text ends r ends
+              pub read-refused : (q ≡ 0 → ⊥) → (r : Answer) → r ≡ refused q → Read text ends r ends
               read-refused d r e =
                   to-settled r ends
-                  (formed-map n (ends-in text) {R = λ k. q ≡ unsearched k} settled (Untouched ends r ends) _
-                  (λ k some u. untouched (e ∙ ap refused (ap (λ (y : Search). y .number) u)))
-                  (λ g. absurd (d (ap (λ (y : Search). y .number) g))))
+                  (formed-map n (ends-in text) {R = λ k. q ≡ k} settled (Untouched ends r ends) _
+                  (λ k some u. untouched (e ∙ ap refused u))
+                  (λ g. absurd (d g)))
 
-              pub read-through : q .number ≡ 0 → (r : Answer) (ends′ : List ℕ) → r ≡ done n m → ends′ ≡ filled (2 * m) taken ends → Read text ends r ends′
+              pub read-through : q ≡ 0 → (r : Answer) (ends′ : List ℕ) → r ≡ done n m → ends′ ≡ filled (2 * m) taken ends → Read text ends r ends′
               read-through z r ends′ e f =
                   let whole : take (2 * m) (ends-in text) ≡ ends-in text = take-all (2 * m) (ends-in text) (omega (arith, long)) in
                   to-settled r ends′
-                  (formed-map n (ends-in text) {R = λ k. q ≡ unsearched k} settled (Untouched ends r ends′) _
-                  (λ k some u. absurd (let y : q .number ≡ k = ap (λ (v : Search). v .number) u in omega arith))
+                  (formed-map n (ends-in text) {R = λ k. q ≡ k} settled (Untouched ends r ends′) _
+                  (λ k some u. absurd (omega (arith, z, u)))
                   (λ g. (e, f ∙ (rw (prefix-is, whole)))))

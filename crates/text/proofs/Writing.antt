@@ -16,8 +16,7 @@ use Rattle.network.specs.Numbers.{refused, done, oversize, odd, Untouched}
 use Rattle.network.specs.declared.Answer.{Answer}
 use Rattle.network.proofs.Checks.{sized, even}
 use Rattle.network.proofs.Sifting.{refuse-2, refuse-3, refuse-rest, untouched}
-use Rattle.search.specs.Orient.{Explored, unsearched}
-use Rattle.search.specs.declared.Search.{Search}
+use Rattle.search.specs.Inside.{Faulted}
 use Rattle.text.specs.Text.{room, text-of}
 use Rattle.text.specs.Calls.{Write}
 use Rattle.text.specs.Inside.{Writable}
@@ -57,16 +56,16 @@ module _ (n : ℕ) (ends : List ℕ) (two : Bool) (is-two : two ≡ oversize n (
         enough : either (odd (length ends)) (ltb (length text) (room (length ends / 2))) ≡ false
         enough = either-no (sym is-three ∙ not-three) (le-ltb _ _ roomy)
 
-        module _ (q : Search) (x : Explored n ends q) where
-          pub write-refused : (q .number ≡ 0 → ⊥) → (r : Answer) → r ≡ refused (q .number) → Write n ends text r text
+        module _ (q : ℕ) (x : Faulted n ends q) where
+          pub write-refused : (q ≡ 0 → ⊥) → (r : Answer) → r ≡ refused q → Write n ends text r text
           write-refused d r e =
-              refuse-rest n ends _ (Untouched text r text) (Gave n ends text r text) enough {R′ = λ k. q ≡ unsearched k} x
-              (λ k some u. untouched (e ∙ ap refused (ap (λ (y : Search). y .number) u)))
-              (λ g. absurd (d (ap (λ (y : Search). y .number) g)))
+              refuse-rest n ends _ (Untouched text r text) (Gave n ends text r text) enough {R′ = λ k. q ≡ k} x
+              (λ k some u. untouched (e ∙ ap refused u))
+              (λ g. absurd (d g))
 
-          pub write-through : q .number ≡ 0 → (r : Answer) (text′ : List ℕ) → r ≡ done (9 * (length ends / 2 + 1)) 0
+          pub write-through : q ≡ 0 → (r : Answer) (text′ : List ℕ) → r ≡ done (9 * (length ends / 2 + 1)) 0
               → text′ ≡ filled (room (length ends / 2)) (text-of n ends) text → Write n ends text r text′
           write-through z r text′ e f =
-              refuse-rest n ends _ (Untouched text r text′) (Gave n ends text r text′) enough {R′ = λ k. q ≡ unsearched k} x
-              (λ k some u. absurd (let y : q .number ≡ k = ap (λ (v : Search). v .number) u in omega arith))
+              refuse-rest n ends _ (Untouched text r text′) (Gave n ends text r text′) enough {R′ = λ k. q ≡ k} x
+              (λ k some u. absurd (omega (arith, z, u)))
               (λ g. (e, f))

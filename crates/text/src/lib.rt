@@ -25,8 +25,7 @@ pub fn read(text: &[u8], ends: &mut [u16]) -> Answer
     }
     let mut taken = [0u16; 4096];
     frames::take_ends(text, lines, &mut taken);
-    let found = search::explore(vertices, &taken[..count]);
-    let number = found.number;
+    let number = search::fault(vertices, &taken[..count]);
     if number != 0 {
         return Answer::refused(number);
     }
@@ -48,8 +47,7 @@ pub fn write(vertices: usize, ends: &[u16], text: &mut [u8]) -> Answer
     if text.len() < bytes {
         return Answer::refused(3);
     }
-    let found = search::explore(vertices, ends);
-    let number = found.number;
+    let number = search::fault(vertices, ends);
     if number != 0 {
         return Answer::refused(number);
     }

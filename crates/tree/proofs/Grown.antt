@@ -19,7 +19,7 @@ use Rattle.tree.specs.Tree.{Tree, higher, lower, climb, aboveb, tree-of}
 use Rattle.tree.specs.Returns.{end}
 use Rattle.tree.specs.Words.{Line, TreeLine, BackLine, Above}
 use Rattle.tree.specs.Grown.{Grown}
-use Rattle.tree.proofs.Searched.{Searched}
+use Rattle.tree.specs.Searched.{Searched}
 
 module _ (n m : ℕ) (ends kind height par : List ℕ) (G : Grown n m ends kind height par) where
   abbrev S : Tree

@@ -1,3 +1,2 @@
-pub mod Searched
 pub mod Grown
 pub mod Returns

@@ -16,7 +16,7 @@ use Rattle.laws.proofs.Occurring.{many-keep-yes}
 use Rattle.tree.specs.Tree.{Tree}
 use Rattle.tree.specs.Returns.{end, returnb, returns, low}
 use Rattle.tree.specs.Words.{Line, TreeLine, BackLine, Above, Leaves, Return}
-use Rattle.tree.proofs.Searched.{Searched}
+use Rattle.tree.specs.Searched.{Searched}
 
 -- The tests
 

@@ -3,3 +3,4 @@ pub mod Tree
 pub mod Returns
 pub mod Words
 pub mod Grown
+pub mod Searched

@@ -1,6 +1,7 @@
 -- `orient` writes what the search found, once nothing speaks against it.
+use mathlib.Core.Path.{sym}
 use native.Mathlib.Omega.{arith}
-use Rattle.search.proofs.Calls.{orient-2, orient-lines, orient-vertices, orient-odd, orient-few-kinds, orient-few-heights, orient-refused, orient-fits, orient-done}
+use Rattle.search.proofs.Calls.{orient-2, orient-kinds, orient-heights, orient-lines, orient-vertices, orient-odd, orient-few-kinds, orient-few-heights, orient-refused, orient-fits, orient-done}
 use borrow.Author.Needs.{needs}
 use Rattle.search.proofs.orient.Statement.{statement}
 use Rattle.search.proofs.orient.Tie as tie
@@ -45,13 +46,13 @@ returns-5 : tie.Need-returns-5
 returns-5 c = search orient-refused
 
 slice-aggregate-bytes : tie.Need-slice-aggregate-bytes
-slice-aggregate-bytes c = search needs
+slice-aggregate-bytes c = sym (orient-kinds _ _ _ _ _ _ (c .before .before .explore .ensures) (c .before .if5 .left))
 
 bytes-requires : tie.Need-bytes-requires
 bytes-requires c κs = (search orient-lines, omega arith)
 
 slice-aggregate-numbers : tie.Need-slice-aggregate-numbers
-slice-aggregate-numbers c = search needs
+slice-aggregate-numbers c = sym (orient-heights _ _ _ _ _ _ (c .before .before .before .before .before .before .before .explore .ensures) (c .before .before .before .before .before .before .if5 .left))
 
 numbers-requires : tie.Need-numbers-requires
 numbers-requires c κs = (search orient-vertices, omega arith)

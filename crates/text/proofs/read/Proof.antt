@@ -47,11 +47,11 @@ take-ends-requires c κs = search parsable
 array-share-prefix-taken : tie.Need-array-share-prefix-taken
 array-share-prefix-taken c = search prefix-in
 
-slice-aggregate-explore : tie.Need-slice-aggregate-explore
-slice-aggregate-explore c = search prefix-long
+slice-aggregate-fault : tie.Need-slice-aggregate-fault
+slice-aggregate-fault c = search prefix-long
 
-explore-requires : tie.Need-explore-requires
-explore-requires c κs = search needs
+fault-requires : tie.Need-fault-requires
+fault-requires c κs = search needs
 
 refused-requires-4 : tie.Need-refused-requires-4
 refused-requires-4 c κs = search needs
@@ -92,8 +92,8 @@ read-spec =
     slice-aggregate-take-ends
     take-ends-requires
     array-share-prefix-taken
-    slice-aggregate-explore
-    explore-requires
+    slice-aggregate-fault
+    fault-requires
     refused-requires-4
     returns-4
     slice-aggregate-numbers

@@ -34,8 +34,8 @@ refused-requires-3 c κs = search needs
 returns-3 : tie.Need-returns-3
 returns-3 c = search write-short
 
-explore-requires : tie.Need-explore-requires
-explore-requires c κs = search needs
+fault-requires : tie.Need-fault-requires
+fault-requires c κs = search needs
 
 refused-requires-4 : tie.Need-refused-requires-4
 refused-requires-4 c κs = search needs
@@ -69,7 +69,7 @@ write-spec =
     mul-bytes
     refused-requires-3
     returns-3
-    explore-requires
+    fault-requires
     refused-requires-4
     returns-4
     put-text-requires

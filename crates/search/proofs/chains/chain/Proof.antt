@@ -1,18 +1,16 @@
--- `chained` makes the chains: the half-lines passed so far are laid.
+-- `chain` makes the chains: the half-lines passed so far are laid.
 use lib.ListN.{length}
+use Rattle.laws.specs.Lists.{at}
 use Rattle.laws.proofs.Chaining.{Linking, linking-start, linking-place, linking-vertex, linking-more, linking-done}
 use borrow.Author.Needs.{needs}
-use Rattle.search.proofs.chains.chained.Statement.{statement}
-use Rattle.search.proofs.chains.chained.Tie as tie
+use Rattle.search.proofs.chains.chain.Statement.{statement}
+use Rattle.search.proofs.chains.chain.Tie as tie
 
 abbrev Inv-loop : tie.InvT-loop
-Inv-loop ends none heads₀ nexts₀ h₀ heads nexts h = Linking 512 4096 (length ends) ends heads nexts h
+Inv-loop ends heads₀ nexts₀ h₀ heads nexts h = Linking 512 4096 (length ends) (at ends) heads nexts h
 
 abbrev μ-loop : tie.MeasureT-loop
-μ-loop ends none heads₀ nexts₀ h₀ heads nexts h = h
-
-cast-none : tie.Need-cast-none Inv-loop μ-loop
-cast-none c = search needs
+μ-loop ends heads₀ nexts₀ h₀ heads nexts h = h
 
 loop-holds : tie.Need-loop-holds Inv-loop μ-loop
 loop-holds c = search linking-start
@@ -32,14 +30,14 @@ wide-requires c κs = search needs
 mul-nexts : tie.Need-mul-nexts Inv-loop μ-loop
 mul-nexts c = search needs
 
-array-read-nexts : tie.Need-array-read-nexts Inv-loop μ-loop
-array-read-nexts c = search linking-vertex
+element-copy-out-nexts : tie.Need-element-copy-out-nexts Inv-loop μ-loop
+element-copy-out-nexts c = search linking-vertex
 
 mul-nexts-2 : tie.Need-mul-nexts-2 Inv-loop μ-loop
 mul-nexts-2 c = search needs
 
-array-write-nexts : tie.Need-array-write-nexts Inv-loop μ-loop
-array-write-nexts c = search linking-place
+element-write-nexts : tie.Need-element-write-nexts Inv-loop μ-loop
+element-write-nexts c = search linking-place
 
 cast-heads : tie.Need-cast-heads Inv-loop μ-loop
 cast-heads c = search needs
@@ -47,8 +45,8 @@ cast-heads c = search needs
 mul-heads : tie.Need-mul-heads Inv-loop μ-loop
 mul-heads c = search needs
 
-array-write-heads : tie.Need-array-write-heads Inv-loop μ-loop
-array-write-heads c = search linking-vertex
+element-write-heads : tie.Need-element-write-heads Inv-loop μ-loop
+element-write-heads c = search linking-vertex
 
 loop-less : tie.Need-loop-less Inv-loop μ-loop
 loop-less c = search needs
@@ -59,25 +57,24 @@ loop-again c = search linking-more
 returns : tie.Need-returns Inv-loop μ-loop
 returns c = search linking-done
 
-pub chained-spec : {M : Type 1} → statement M
-chained-spec =
+pub chain-spec : {M : Type 1} → statement M
+chain-spec =
     tie.close
     (tie.spec
     Inv-loop
     μ-loop
-    cast-none
     loop-holds
     sub-h
     mul-wide
     shared-slice-read-wide
     wide-requires
     mul-nexts
-    array-read-nexts
+    element-copy-out-nexts
     mul-nexts-2
-    array-write-nexts
+    element-write-nexts
     cast-heads
     mul-heads
-    array-write-heads
+    element-write-heads
     loop-less
     loop-again
     returns)
