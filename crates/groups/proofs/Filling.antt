@@ -16,12 +16,19 @@ use Rattle.laws.proofs.Cases.{cases, eq-or, bool, true-false}
 use Rattle.laws.proofs.Tests.{all-yes, all-of}
 use Rattle.side.specs.Sides.{opposite}
 use Rattle.side.proofs.Opposite.{opposite-left, opposite-other}
-use Rattle.groups.specs.Groups.{PutAt, Relabelled, Recoloured, fitb, fitsb}
-use Rattle.groups.specs.Calls.{OwnNumbers, BaseParity, Levelled, Moved, Flipped, Copied, Sought, Rewritten, Advanced, Stuck, Reading, Wide}
+use Rattle.groups.specs.Groups.{columns, PutAt, Recoloured, fitb, fitsb}
+use Rattle.groups.specs.Calls.{Copied, Sought, Rewritten, Advanced, Stuck, Reading, Wide}
 use Rattle.groups.proofs.Choosing.{pivot-more, no-pivot-more, pivot-here}
 
+-- a store, where it is and elsewhere
+pub stored : (l : List ℕ) (i v : ℕ) → i < length l → at (set l i v) i ≡ v
+stored l i v h = getD-set-same l i v 0 h
+
+pub beside : (l : List ℕ) (i v j : ℕ) → (j ≡ i → ⊥) → at (set l i v) j ≡ at l j
+beside l i v j d = getD-set-other l i j v 0 d
+
 pub put-at : (l : List ℕ) (v x : ℕ) → v < length l → PutAt (at l) v x (at (set l v x))
-put-at l v x h = record { here = getD-set-same l v x 0 h; there = λ b e. getD-set-other l v b x 0 e }
+put-at l v x h = record { here = stored l v x h; there = λ b e. beside l v x b e }
 
 pub record Filled (P : ℕ → ℕ → Type 0) (n i : ℕ) (old new : List ℕ) : Type 0 where
   pub upto : i ≤ n
@@ -50,135 +57,80 @@ filled-all P n i old l f h j o = f .done j (omega arith)
 filled-rest : (P : ℕ → ℕ → Type 0) (n i : ℕ) (old l : List ℕ) → Filled P n i old l → Past n old l
 filled-rest P n i old l f j o = f .rest j (omega (arith, f .upto))
 
--- Each line's own number
-
-unfoldable pub Own : ℕ → ℕ → Type 0
-Own j v = v ≡ j
-
-module _ (lines b : ℕ) (old l : List ℕ) (f : Filled Own lines b old l) where
-  pub own-more : b < lines → Filled Own lines (b + 1) old (set l b b)
-  unfolding Own
-  own-more h = filled-more f h refl
-
-  pub numbered : lines ≤ b → OwnNumbers lines l
-  unfolding Own
-  numbered h = record { own = filled-all Own lines b old l f h }
-
--- 0 or 2
-
-unfoldable pub Levels : List ℕ → ℕ → ℕ → Type 0
-Levels kinds j v = BaseParity (at kinds j) v
-
-module _ (lines b : ℕ) (kinds old l : List ℕ) (f : Filled (Levels kinds) lines b old l) where
-  pub levels-more : (v : ℕ) → b < lines → BaseParity (at kinds b) v → Filled (Levels kinds) lines (b + 1) old (set l b v)
-  unfolding Levels
-  levels-more v h q = filled-more f h q
-
-  pub levelled : lines ≤ b → Levelled lines kinds l
-  unfolding Levels
-  levelled h = record { each = filled-all (Levels kinds) lines b old l f h }
+-- a parity is one that a choice may write
+pub byte-small : (lines b : ℕ) (g choice : List ℕ) → Reading lines g choice → b < lines → at g (2048 + b) ≤ 2
+byte-small lines b g choice r h = r .small b h
 
 -- The first choice
 
 unfoldable pub Copies : List ℕ → ℕ → ℕ → Type 0
-Copies parity j v = v ≡ at parity j
+Copies g j v = v ≡ columns g .parity j
 
-module _ (lines b : ℕ) (parity old l : List ℕ) (f : Filled (Copies parity) lines b old l) where
-  pub copies-more : b < lines → Filled (Copies parity) lines (b + 1) old (set l b (at parity b))
+module _ (lines b : ℕ) (g old l : List ℕ) (f : Filled (Copies g) lines b old l) where
+  pub copies-more : (v : ℕ) → b < lines → v ≡ at g (2048 + b) → Filled (Copies g) lines (b + 1) old (set l b v)
   unfolding Copies
-  copies-more h = filled-more f h refl
+  copies-more v h e = filled-more f h e
 
-  pub copied : lines ≤ b → Copied lines parity old l
+  pub copied : lines ≤ b → Copied lines g old l
   unfolding Copies
-  copied h = record { bytes = filled-all (Copies parity) lines b old l f h; rest = filled-rest (Copies parity) lines b old l f }
+  copied h = record { bytes = filled-all (Copies g) lines b old l f h; rest = filled-rest (Copies g) lines b old l f }
 
 -- Turning
 
-unfoldable pub Turns : List ℕ → List ℕ → List ℕ → ℕ → ℕ → ℕ → Type 0
-Turns leader parity old r j v = Recoloured (at leader j) (at parity j) (at old j) r v
+unfoldable pub Turns : List ℕ → List ℕ → ℕ → ℕ → ℕ → Type 0
+Turns g old r j v = Recoloured (columns g .leader j) (columns g .parity j) (at old j) r v
 
-module _ (lines b r : ℕ) (leader parity old l : List ℕ) (f : Filled (Turns leader parity old r) lines b old l) where
-  pub turns-more : (w v : ℕ) → b < lines → Wide (at leader b) w → Recoloured w (at parity b) (at l b) r v
-      → Filled (Turns leader parity old r) lines (b + 1) old (set l b v)
+module _ (lines b r : ℕ) (g old l : List ℕ) (f : Filled (Turns g old r) lines b old l) where
+  pub turns-more : (w p v : ℕ) → b < lines → Wide (at g b) w → p ≡ at g (2048 + b) → Recoloured w p (at l b) r v
+      → Filled (Turns g old r) lines (b + 1) old (set l b v)
   unfolding Turns
-  turns-more w v h e q = filled-more f h (rw (← e .is, ← f .rest b (omega arith)) q)
+  turns-more w p v h e q c = filled-more f h (rw (← e .is, ← q, ← f .rest b (omega arith)) c)
 
-  pub turns-all : lines ≤ b → Rewritten lines r leader parity old l
+  pub turns-all : lines ≤ b → Rewritten lines r g old l
   unfolding Turns
-  turns-all h = record { bytes = filled-all (Turns leader parity old r) lines b old l f h; rest = filled-rest (Turns leader parity old r) lines b old l f }
-
--- Relabelling
-
-unfoldable pub Moves : List ℕ → ℕ → ℕ → ℕ → ℕ → Type 0
-Moves leader low high j v = Moved (at leader j) low high v
-
-unfoldable pub Flips : List ℕ → List ℕ → ℕ → ℕ → ℕ → ℕ → Type 0
-Flips leader parity high turn j v = Flipped (at leader j) (at parity j) high turn v
-
-module _ (lines x low high : ℕ) (leader l : List ℕ) (f : Filled (Moves leader low high) lines x leader l) where
-  pub moves-more : (v : ℕ) → x < lines → Moved (at l x) low high v → Filled (Moves leader low high) lines (x + 1) leader (set l x v)
-  unfolding Moves
-  moves-more v h q = filled-more f h (rw (← f .rest x (omega arith)) q)
-
-  module _ (turn : ℕ) (parity p : List ℕ) (g : Filled (Flips leader parity high turn) lines x parity p) where
-    pub flips-more : (v : ℕ) → x < lines → Flipped (at l x) (at p x) high turn v
-        → Filled (Flips leader parity high turn) lines (x + 1) parity (set p x v)
-    unfolding Flips
-    flips-more v h q = filled-more g h (rw (← f .rest x (omega arith), ← g .rest x (omega arith)) q)
-
-    pub relabelled : lines ≤ x → Relabelled lines low high turn (at leader) (at parity) (at l) (at p)
-    unfolding Moves Flips
-    relabelled h =
-        record {
-          each = λ j o.
-              let a = f .done j (omega arith) in
-              let b = g .done j (omega arith) in
-              record { moved = λ e. (a .moved e, b .moved e); stays = λ n. (a .stays n, b .stays n) };
-        }
+  turns-all h = record { bytes = filled-all (Turns g old r) lines b old l f h; rest = filled-rest (Turns g old r) lines b old l f }
 
 -- The pivot
 
-pub record Seeking (lines b : ℕ) (leader choice : List ℕ) (r : ℕ) : Type 0 where
+pub record Seeking (lines b : ℕ) (g choice : List ℕ) (r : ℕ) : Type 0 where
   pub upto : b ≤ lines
-  pub sought : Sought lines b (at leader) (at choice) r
+  pub sought : Sought lines b (columns g .leader) (at choice) r
 
-module _ (lines : ℕ) (leader choice : List ℕ) where
-  pub seek-none : Seeking lines 0 leader choice lines
+module _ (lines : ℕ) (g choice : List ℕ) where
+  pub seek-none : Seeking lines 0 g choice lines
   seek-none = record { upto = omega arith; sought = inr (refl, λ s h. absurd (omega arith)) }
 
-  module _ (b r w : ℕ) (s : Seeking lines b leader choice r) (h : b < lines) (e : Wide (at leader b) w) where
-    pub seek-here : w ≡ b → at choice b ≡ 0 → Seeking lines (b + 1) leader choice b
+  module _ (b r w : ℕ) (s : Seeking lines b g choice r) (h : b < lines) (e : Wide (at g b) w) where
+    pub seek-here : w ≡ b → at choice b ≡ 0 → Seeking lines (b + 1) g choice b
     seek-here q z =
-        record { upto = omega arith; sought = rw add-one (inl (pivot-here (at leader) (at choice) b (sym (e .is) ∙ q) z)) }
+        record { upto = omega arith; sought = rw add-one (inl (pivot-here (columns g .leader) (at choice) b (sym (e .is) ∙ q) z)) }
 
-    pass : (at leader b ≡ b → at choice b ≡ 0 → ⊥) → Seeking lines (b + 1) leader choice r
+    pass : (at g b ≡ b → at choice b ≡ 0 → ⊥) → Seeking lines (b + 1) g choice r
     pass o =
         record {
           upto = omega arith;
           sought =
               rw add-one
               (cases (s .sought)
-              (λ p. inl (pivot-more (at leader) (at choice) b o p))
-              (λ p. inr (p .0, no-pivot-more (at leader) (at choice) b o (p .1))));
+              (λ p. inl (pivot-more (columns g .leader) (at choice) b o p))
+              (λ p. inr (p .0, no-pivot-more (columns g .leader) (at choice) b o (p .1))));
         }
 
-    pub seek-right : (at choice b ≡ 0 → ⊥) → Seeking lines (b + 1) leader choice r
+    pub seek-right : (at choice b ≡ 0 → ⊥) → Seeking lines (b + 1) g choice r
     seek-right n = pass (λ q z. n z)
 
-    pub seek-led : (w ≡ b → ⊥) → Seeking lines (b + 1) leader choice r
+    pub seek-led : (w ≡ b → ⊥) → Seeking lines (b + 1) g choice r
     seek-led n = pass (λ q z. n (e .is ∙ q))
 
-  pub seek-all : (b r : ℕ) → Seeking lines b leader choice r → lines ≤ b → Sought lines lines (at leader) (at choice) r
+  pub seek-all : (b r : ℕ) → Seeking lines b g choice r → lines ≤ b → Sought lines lines (columns g .leader) (at choice) r
   seek-all b r s h = let e : b ≡ lines = omega (arith, s .upto) in rw e at (s .sought)
 
-pub stuck : (lines r : ℕ) (leader choice : List ℕ) → Sought lines lines (at leader) (at choice) r → r ≡ lines → Stuck lines leader choice choice
-stuck lines r leader choice s e =
-    record { none = cases s (λ p. absurd (omega (arith, p .within))) (λ p. p .1); same = refl }
+pub stuck : (lines r : ℕ) (g choice : List ℕ) → Sought lines lines (columns g .leader) (at choice) r → r ≡ lines → Stuck lines g choice choice
+stuck lines r g choice s e = record { none = cases s (λ p. absurd (omega (arith, p .within))) (λ p. p .1); same = refl }
 
-pub advanced : (lines r : ℕ) (leader parity choice choice′ : List ℕ) → Rewritten lines r leader parity choice choice′
-    → Sought lines lines (at leader) (at choice) r → (r ≡ lines → ⊥) → Advanced lines leader parity choice choice′
-advanced lines r leader parity choice choice′ w s n =
-    record { pivot = r; highest = cases s (λ p. p) (λ p. absurd (n (p .0))); turned = w }
+pub advanced : (lines r : ℕ) (g choice choice′ : List ℕ) → Rewritten lines r g choice choice′ → Sought lines lines (columns g .leader) (at choice) r
+    → (r ≡ lines → ⊥) → Advanced lines g choice choice′
+advanced lines r g choice choice′ w s n = record { pivot = r; highest = cases s (λ p. p) (λ p. absurd (n (p .0))); turned = w }
 
 -- The test of a choice
 
@@ -195,36 +147,37 @@ module _ (p x y : ℕ) where
   unfolding fitb both
   fit-side r n h e = rw (e, ne-eqb p 2 n, le-leb x 1 h)
 
-pub record Fitting (lines b : ℕ) (leader parity choice : List ℕ) : Type 0 where
+pub record Fitting (lines b : ℕ) (g choice : List ℕ) : Type 0 where
   pub upto : b ≤ lines
-  pub fit : (j : ℕ) → j < b → fitb (at parity j) (at choice j) (at choice (at leader j)) ≡ true
+  pub fit : (j : ℕ) → j < b → fitb (columns g .parity j) (at choice j) (at choice (columns g .leader j)) ≡ true
 
-module _ (lines : ℕ) (leader parity choice : List ℕ) where
-  pub fitting-none : Fitting lines 0 leader parity choice
+module _ (lines : ℕ) (g choice : List ℕ) where
+  pub fitting-none : Fitting lines 0 g choice
   fitting-none = record { upto = omega arith; fit = λ j h. absurd (omega arith) }
 
-  module _ (b w : ℕ) (s : Fitting lines b leader parity choice) (h : b < lines) (e : Wide (at leader b) w) where
-    pub led-inside : Reading lines leader parity choice → w < length choice
+  module _ (b w : ℕ) (s : Fitting lines b g choice) (h : b < lines) (e : Wide (at g b) w) where
+    pub led-inside : Reading lines g choice → w < length choice
     led-inside q = omega (arith, q .inside b h, e .is, q .bytes)
 
-    module _ (r : Bool) (is : r ≡ fitb (at parity b) (at choice b) (at choice w)) where
-      here : r ≡ fitb (at parity b) (at choice b) (at choice (at leader b))
-      here = is ∙ ap (λ (z : ℕ). fitb (at parity b) (at choice b) (at choice z)) (e .is)
+    module _ (p : ℕ) (is-parity : p ≡ at g (2048 + b)) (r : Bool) (is : r ≡ fitb p (at choice b) (at choice w)) where
+      here : r ≡ fitb (columns g .parity b) (at choice b) (at choice (columns g .leader b))
+      here =
+          is ∙ ap (λ (z : ℕ). fitb z (at choice b) (at choice w)) is-parity ∙ ap (λ (z : ℕ). fitb (columns g .parity b) (at choice b) (at choice z)) (e .is)
 
-      pub fitting-more : not r ≡ false → Fitting lines (b + 1) leader parity choice
+      pub fitting-more : not r ≡ false → Fitting lines (b + 1) g choice
       fitting-more t =
           record {
             upto = omega arith;
             fit = λ j o. cases (eq-or j b) (λ q. rw q (sym here ∙ not-false r t)) (λ d. let d′ : j ≢ b = d in s .fit j (omega arith));
           }
 
-      pub misfit : not r ≡ true → false ≡ fitsb lines (at leader) (at parity) (at choice)
+      pub misfit : not r ≡ true → false ≡ fitsb lines (columns g .leader) (columns g .parity) (at choice)
       unfolding fitsb
       misfit f =
-          cases (bool (all (λ j. fitb (at parity j) (at choice j) (at choice (at leader j))) lines))
+          cases (bool (all (λ j. fitb (columns g .parity j) (at choice j) (at choice (columns g .leader j))) lines))
           (λ t. true-false (all-of _ lines t b h) (sym here ∙ not-true r f)) sym
 
-  pub fitting-all : (b : ℕ) → Fitting lines b leader parity choice → lines ≤ b → true ≡ fitsb lines (at leader) (at parity) (at choice)
+  pub fitting-all : (b : ℕ) → Fitting lines b g choice → lines ≤ b → true ≡ fitsb lines (columns g .leader) (columns g .parity) (at choice)
   unfolding fitsb
   fitting-all b s h = sym (all-yes _ lines (λ j o. s .fit j (omega arith)))
 

@@ -197,7 +197,7 @@ module _ (lines : ℕ) (back : ℕ → Bool) (P : Constraints) (t : Tables) (g :
     joined-inside x h =
         cases (eq-or x high)
         (λ e. (omega (arith, ap (t′ .from) e, m .from .here, hb .within), omega (arith, ap (t′ .to) e, m .to .here, hd .within)))
-        (λ n. (omega (arith, m .from .there x n, g .inside x h), omega (arith, m .to .there x n, g .inside x h)))
+        (λ n. (omega (arith, m .from .there x h n, g .inside x h), omega (arith, m .to .there x h n, g .inside x h)))
 
     joined-idle : (x : ℕ) → x < lines → t′ .leader x ≡ x → t′ .from x ≡ t′ .to x
     joined-idle x h e =
@@ -205,7 +205,7 @@ module _ (lines : ℕ) (back : ℕ → Bool) (P : Constraints) (t : Tables) (g :
         (λ o. absurd (omega (arith, ap (t .leader) (sym (o .now) ∙ e), low-led .0, o .was)))
         (λ o.
         let n : x ≡ high → ⊥ = λ q. o .was (ap (t .leader) q ∙ high-led .0) in
-        m .from .there x n ∙ g .idle x h (sym (o .now) ∙ e) ∙ sym (m .to .there x n))
+        m .from .there x h n ∙ g .idle x h (sym (o .now) ∙ e) ∙ sym (m .to .there x h n))
 
     -- a constraint that joined groups is of the kind that the parities, old and new, say
     joined-taken : (x : ℕ) → x < lines
@@ -216,7 +216,7 @@ module _ (lines : ℕ) (back : ℕ → Bool) (P : Constraints) (t : Tables) (g :
         let kind : (t′ .parity b + t′ .parity d) % 2 ≡ k = omega (arith, between .1) in
         inr (rw (e, m .from .here, m .to .here) (inr (refl, refl, kind))))
         (λ n.
-        rw (m .from .there x n, m .to .there x n)
+        rw (m .from .there x h n, m .to .there x h n)
         (cases (g .taken x h) inl
         (λ p.
         let q = g .ends _ _ _ p in
@@ -233,8 +233,8 @@ module _ (lines : ℕ) (back : ℕ → Bool) (P : Constraints) (t : Tables) (g :
         inr (record {
           place = j .place;
           within = j .within;
-          is-from = m .from .there (j .place) n ∙ j .is-from;
-          is-to = m .to .there (j .place) n ∙ j .is-to;
+          is-from = m .from .there (j .place) (j .within) n ∙ j .is-from;
+          is-to = m .to .there (j .place) (j .within) n ∙ j .is-to;
         }))
 
     new-step : Joins lines (t′ .from) (t′ .to) b d

@@ -4,7 +4,7 @@ use mathlib.Core.Bool.{Bool, false, cond}
 use mathlib.Core.List.{List}
 use mathlib.Core.Logic.{_⊎_}
 use mathlib.Core.Path.{_≡_}
-use Prim.Native.Nat.{ℕ, _+_, _-_, _%_, _≤_, _<_}
+use Prim.Native.Nat.{ℕ, zero, suc, _+_, _-_, _%_, _≤_, _<_}
 use lib.Dec.{eqb, leb}
 use Rattle.laws.specs.Tests.{both, all}
 use Rattle.laws.specs.Lists.{at}
@@ -18,8 +18,29 @@ pub record Tables : Type 0 where
   pub from : ℕ → ℕ
   pub to : ℕ → ℕ
 
-abbrev pub tables : List ℕ → List ℕ → List ℕ → List ℕ → Tables
-tables leader parity from to = record { leader = at leader; parity = at parity; from = at from; to = at to }
+-- .. as the columns of one table of 8,192 places, 2,048 for each.
+abbrev pub columns : List ℕ → Tables
+columns g = record { leader = at g; parity = λ b. at g (2048 + b); from = λ b. at g (4096 + b); to = λ b. at g (6144 + b) }
+
+-- While constraints are taken in, the first column points: a line to a lower one of its group, or to itself where it leads; and the second says whether
+-- the line is on the other side of that one. Where n steps along the pointers lead, and what the turns on the way come to.
+unfoldable pub root : (ℕ → ℕ) → ℕ → ℕ → ℕ
+root up zero x = x
+root up (suc n) x = root up n (up x)
+
+unfoldable pub facing : (ℕ → ℕ) → (ℕ → ℕ) → ℕ → ℕ → ℕ
+facing up entry zero x = entry x
+facing up entry (suc n) x = cond (eqb (up x) x) (entry x) ((entry x + facing up entry n (up x)) % 2)
+
+-- .. and what the table then stands for: no pointer leads up, so a line's own number of steps is enough.
+unfoldable pub pointed : List ℕ → Tables
+pointed g =
+    record {
+      leader = λ b. root (columns g .leader) b b;
+      parity = λ b. facing (columns g .leader) (columns g .parity) b b;
+      from = columns g .from;
+      to = columns g .to;
+    }
 
 -- A constraint that joined two groups was one between u and v.
 pub record Joins (lines : ℕ) (from to : ℕ → ℕ) (u v : ℕ) : Type 0 where
@@ -59,6 +80,11 @@ pub record PutAt (f : ℕ → ℕ) (v x : ℕ) (g : ℕ → ℕ) : Type 0 where
   pub here : g v ≡ x
   pub there : (b : ℕ) → (b ≡ v → ⊥) → g b ≡ f b
 
+-- .. as far as lines go.
+pub record PutBelow (lines : ℕ) (f : ℕ → ℕ) (v x : ℕ) (g : ℕ → ℕ) : Type 0 where
+  pub here : g v ≡ x
+  pub there : (b : ℕ) → b < lines → (b ≡ v → ⊥) → g b ≡ f b
+
 -- A line of the group of `high` goes over to `low`, and its parity turns by `turn`; the others stay as they are.
 pub record Relabel (low high turn l p l′ p′ : ℕ) : Type 0 where
   pub moved : l ≡ high → (l′ ≡ low) × (p′ ≡ (p + turn) % 2)
@@ -70,8 +96,8 @@ pub record Relabelled (lines low high turn : ℕ) (leader parity leader′ parit
 -- The group of `high` is given to `low` by a constraint between b and d.
 pub record Merged (lines low high turn b d : ℕ) (t t′ : Tables) : Type 0 where
   pub groups : Relabelled lines low high turn (t .leader) (t .parity) (t′ .leader) (t′ .parity)
-  pub from : PutAt (t .from) high b (t′ .from)
-  pub to : PutAt (t .to) high d (t′ .to)
+  pub from : PutBelow lines (t .from) high b (t′ .from)
+  pub to : PutBelow lines (t .to) high d (t′ .to)
 
 -- The new byte z of a line with the leader l, the parity y and the byte x, where the group of r is turned: the groups of lower leaders are kept, and
 -- those of higher leaders begin anew.

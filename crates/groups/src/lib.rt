@@ -1,15 +1,21 @@
 // Groups of back lines under constraints: each constraint joins the groups of its two lines, agrees with what is there, or shows a conflict.
 //
-// Its contracts cite specs/Groups.antt and, for what is between these functions alone, specs/Calls.antt.
+// While constraints are taken in, each line points to a lower one of its group, or leads. Its contracts cite specs/Groups.antt and, for what is
+// between these functions alone, specs/Calls.antt.
 pub mod choice; // the first choice, the next choice, the test of a choice
+pub mod columns; // the table of groups
 
 ghost use mathlib.Core.Path.{_≡_};
 ghost use Prim.Native.Nat.{ℕ, _+_, _%_, _≤_, _<_};
-ghost use lib.ListN.{length};
-ghost use Rattle.laws.specs.Lists.{at};
-ghost use Rattle.groups.specs.Groups.{tables, Relabelled, Merged};
-ghost use Rattle.groups.specs.Calls.{Wide, Room, OwnNumbers, BaseParity, Levelled, Unjoined, Moved, Flipped, Joinable, Mergeable, joined};
+ghost use Rattle.groups.specs.Calls.{Wide, Pointing, BaseParity, Started, Joinable, Passable, PassedBy, LookedUp, Mergeable, GivenOver, Replied, Flattened};
+use columns::FROM;
+use columns::LEADER;
+use columns::PARITY;
+use columns::TO;
+use columns::leader;
+use network::Kind;
 use side::Side;
+use side::Wants;
 
 // What taking in a constraint came to.
 pub enum Joining {
@@ -22,54 +28,57 @@ pub enum Joining {
 }
 
 // Each line leads itself. `kinds` has 1 at back lines and another byte at the others, whose parity is 2.
-pub fn start(
-    lines: usize,
-    kinds: &[u8],
-    leader: &mut [u16],
-    parity: &mut [u8],
-    from: &mut [u16],
-    to: &mut [u16],
-)
-    requires { ⌜ Room lines (now leader) (now parity) (now from) (now to) × (lines ≤ length (now kinds)) ⌝ }
-    ensures { λ _. ⌜ Unjoined lines (now (kinds .entry)) (now (leader .exit)) (now (parity .exit)) (now (from .exit)) (now (to .exit)) ⌝ }
+pub fn start(lines: usize, kinds: &[u8; 2048], groups: &mut [u16; 8192])
+    requires { ⌜ (lines ≤ 2048) × Pointing (now groups) ⌝ }
+    ensures { λ _. ⌜ Pointing (now (groups .exit)) × Started lines (now (kinds .entry)) (now (groups .exit)) ⌝ }
 {
-    number(lines, leader);
-    level(lines, kinds, parity);
-    number(lines, from);
-    number(lines, to);
+    let mut b = 0;
+    while b < lines {
+        let own = b as u16;
+        groups[LEADER + b] = own;
+        groups[PARITY + b] = alone(kinds[b]);
+        groups[FROM + b] = own;
+        groups[TO + b] = own;
+        b += 1;
+    }
 }
 
 // Takes in the constraint between the back lines b and d.
-pub fn join(
-    lines: usize,
-    leader: &mut [u16],
-    parity: &mut [u8],
-    from: &mut [u16],
-    to: &mut [u16],
-    b: usize,
-    d: usize,
-    kind: u8,
-) -> Joining
-    requires { ⌜ Joinable lines b d kind (now leader) (now parity) (now from) (now to) ⌝ }
-    ensures { λ r. ⌜ joined lines b d kind
-        (tables (now (leader .entry)) (now (parity .entry)) (now (from .entry)) (now (to .entry)))
-        (tables (now (leader .exit)) (now (parity .exit)) (now (from .exit)) (now (to .exit))) r ⌝ }
+pub fn join(b: usize, d: usize, kind: u8, groups: &mut [u16; 8192]) -> Joining
+    requires { ⌜ Joinable b d (now groups) ⌝ }
+    ensures { λ r. ⌜ Replied b d kind (now (groups .entry)) (now (groups .exit)) r ⌝ }
 {
-    let x = leader[b];
-    let y = leader[d];
-    let turn = odd(parity[b], parity[d], kind);
-    if x == y {
+    let one = look_up(b, groups);
+    let two = look_up(d, groups);
+    let turn = odd(one.turn, two.turn, kind);
+    if one.line == two.line {
         if turn == 0 {
             return Joining::Agrees;
         }
         return Joining::Conflicts;
     }
-    if x < y {
-        merge(lines, leader, parity, from, to, b, d, x, y, turn);
+    if one.line < two.line {
+        point(one.line, two.line, turn, b, d, groups);
         return Joining::Joins;
     }
-    merge(lines, leader, parity, from, to, b, d, y, x, turn);
+    point(two.line, one.line, turn, b, d, groups);
     Joining::Joins
+}
+
+// When all constraints are taken in: each line points to its leader, and its parity is against that one.
+pub fn flatten(lines: usize, groups: &mut [u16; 8192])
+    requires { ⌜ (lines ≤ 2048) × Pointing (now groups) ⌝ }
+    ensures { λ _. ⌜ Flattened lines (now (groups .entry)) (now (groups .exit)) ⌝ }
+{
+    let mut b = 0;
+    while b < lines {
+        let after = b + 1;
+        let l = leader(groups, b);
+        if l != b {
+            pass(b, l, groups);
+        }
+        b = after;
+    }
 }
 
 // A number as an index.
@@ -80,101 +89,61 @@ pub fn wide(x: u16) -> usize
 }
 
 // 1 where the sum is odd, 0 where it is even.
-pub fn odd(x: u8, y: u8, kind: u8) -> u8
+pub(crate) fn odd(x: u16, y: u16, kind: u8) -> u16
     ensures { λ r. ⌜ r ≡ (x + y + kind) % 2 ⌝ }
 {
-    ((x as usize + y as usize + kind as usize) % 2) as u8
-}
-
-// Writes each line's own number.
-fn number(lines: usize, table: &mut [u16])
-    requires { ⌜ (lines ≤ 2048) × (lines ≤ length (now table)) ⌝ }
-    ensures { λ _. ⌜ OwnNumbers lines (now (table .exit)) ⌝ }
-{
-    let mut b = 0;
-    while b < lines {
-        table[b] = b as u16;
-        b += 1;
-    }
+    ((wide(x) + wide(y) + kind as usize) % 2) as u16
 }
 
 // The parity of a line by itself.
-fn alone(kind: u8) -> u8
+fn alone(kind: u8) -> u16
     ensures { λ r. ⌜ BaseParity kind r ⌝ }
 {
-    if kind == 1 {
-        return Side::LEFT;
+    if kind == Kind::BACK {
+        return Side::LEFT as u16;
     }
-    Side::TREE
+    Side::TREE as u16
 }
 
-// Writes the parities of lines by themselves.
-fn level(lines: usize, kinds: &[u8], parity: &mut [u8])
-    requires { ⌜ (lines ≤ length (now kinds)) × (lines ≤ length (now parity)) ⌝ }
-    ensures { λ _. ⌜ Levelled lines (now (kinds .entry)) (now (parity .exit)) ⌝ }
-{
-    let mut b = 0;
-    while b < lines {
-        parity[b] = alone(kinds[b]);
-        b += 1;
-    }
+// A leader, and a line's turn against it.
+struct Lead {
+    line: usize,
+    turn: u16,
 }
 
-// The leader of a line after the group of `high` went over to `low`.
-fn moved(l: u16, low: u16, high: u16) -> u16
-    ensures { λ r. ⌜ Moved l low high r ⌝ }
+// Looks up the leader of b. On the way every second line is pointed past the one that it leads to, so that the next look has half the way.
+fn look_up(b: usize, groups: &mut [u16; 8192]) -> Lead
+    requires { ⌜ (b < 2048) × Pointing (now groups) ⌝ }
+    ensures { λ r. ⌜ LookedUp b (now (groups .entry)) (now (groups .exit)) (r .line) (r .turn) ⌝ }
 {
-    if l == high {
-        return low;
+    let mut x = b;
+    let mut turn = 0;
+    let mut y = leader(groups, x);
+    while y != x {
+        pass(x, y, groups);
+        turn = odd(turn, groups[PARITY + x], Wants::SAME);
+        x = leader(groups, x);
+        y = leader(groups, x);
     }
-    l
+    Lead { line: x, turn }
 }
 
-// Its parity.
-fn flipped(l: u16, p: u8, high: u16, turn: u8) -> u8
-    ensures { λ r. ⌜ Flipped l p high turn r ⌝ }
+// Points x, which points to y, to where y points, with the turns added.
+fn pass(x: usize, y: usize, groups: &mut [u16; 8192])
+    requires { ⌜ Passable x y (now groups) ⌝ }
+    ensures { λ _. ⌜ PassedBy x y (now (groups .entry)) (now (groups .exit)) ⌝ }
 {
-    if l == high {
-        return odd(p, turn, 0);
-    }
-    p
+    groups[LEADER + x] = groups[LEADER + y];
+    groups[PARITY + x] = odd(groups[PARITY + x], groups[PARITY + y], Wants::SAME);
 }
 
-// Gives the group of `high` to `low`.
-fn relabel(lines: usize, leader: &mut [u16], parity: &mut [u8], low: u16, high: u16, turn: u8)
-    requires { ⌜ (lines ≤ length (now leader)) × (lines ≤ length (now parity)) ⌝ }
-    ensures { λ _. ⌜ Relabelled lines low high turn (at (now (leader .entry))) (at (now (parity .entry)))
-        (at (now (leader .exit))) (at (now (parity .exit))) ⌝ }
+// Gives the group of `high` to `low` by the constraint between b and d, which is noted.
+fn point(low: usize, high: usize, turn: u16, b: usize, d: usize, groups: &mut [u16; 8192])
+    requires { ⌜ Mergeable low high b d (now groups) ⌝ }
+    ensures { λ _. ⌜ GivenOver low high turn b d (now (groups .entry)) (now (groups .exit)) ⌝ }
 {
-    let mut x = 0;
-    while x < lines {
-        let l = leader[x];
-        leader[x] = moved(l, low, high);
-        parity[x] = flipped(l, parity[x], high, turn);
-        x += 1;
-    }
-}
-
-// Gives the group of `high` to `low`, and notes the constraint that did.
-fn merge(
-    lines: usize,
-    leader: &mut [u16],
-    parity: &mut [u8],
-    from: &mut [u16],
-    to: &mut [u16],
-    b: usize,
-    d: usize,
-    low: u16,
-    high: u16,
-    turn: u8,
-)
-    requires { ⌜ Mergeable lines b d high (now leader) (now parity) (now from) (now to) ⌝ }
-    ensures { λ _. ⌜ Merged lines low high turn b d
-        (tables (now (leader .entry)) (now (parity .entry)) (now (from .entry)) (now (to .entry)))
-        (tables (now (leader .exit)) (now (parity .exit)) (now (from .exit)) (now (to .exit))) ⌝ }
-{
-    relabel(lines, leader, parity, low, high, turn);
-    let h = wide(high);
-    from[h] = b as u16;
-    to[h] = d as u16;
+    groups[LEADER + high] = low as u16;
+    groups[PARITY + high] = turn;
+    groups[FROM + high] = b as u16;
+    groups[TO + high] = d as u16;
 }

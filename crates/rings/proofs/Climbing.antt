@@ -1,108 +1,188 @@
--- Climbing back from a line that the flood reached: places fall, so the lines are different, and each has a step to the next.
+-- Climbing back from a line that the flood reached: places in the queue fall, so the lines are different, and each has a joining to the next.
+use mathlib.Core.List.{List}
 use mathlib.Core.Logic.{_≢_}
 use mathlib.Core.Path.{_≡_, sym, _∙_, ap, subst}
-use Prim.Native.Nat.{ℕ, zero, suc, _+_, _-_, _≤_, _<_}
+use Prim.Native.Nat.{ℕ, suc, _+_, _-_, _≤_, _<_}
 use native.Mathlib.Omega.{arith}
-use Rattle.laws.proofs.Cases.{cases, lt-or}
-use Rattle.groups.specs.Groups.{PutAt}
-use Rattle.rings.specs.Rings.{Reach, Step, Queued, Reached, Climbed, SimpleWay}
-use Rattle.rings.proofs.Flooding.{pigeon}
+use lib.ListN.{set, length-set}
+use Rattle.laws.specs.Lists.{at}
+use Rattle.laws.proofs.Cases.{cases, eq-or, lt-or}
+use Rattle.groups.specs.Calls.{Wide}
+use Rattle.groups.specs.Groups.{columns}
+use Rattle.groups.proofs.Filling.{stored, beside}
+use Rattle.rings.specs.Flooding.{Step, Found, Climbable, Trail, Reachable, SimpleWay}
+use Rattle.rings.proofs.Flooding.{pigeon, queue-few}
 
-module _ (lines d n : ℕ) (r : Reach) (g : Queued lines n r) where
-  pub climb-none : d < lines → 0 < r .place d → (line : ℕ → ℕ) → line 0 ≡ d → Climbed lines d n r (r .place d - 1) 0 line
-  climb-none h p line e =
-      cases (g .spot d h) (λ z. absurd (omega arith))
-      (λ z.
-      let q : r .place d - 1 ≡ z .0 = omega (arith, z .2) in
+-- n lines are written, the last of them x, at a place of the queue; those before stand at higher places
+pub record Climb (lines b d n x : ℕ) (via chain : List ℕ) : Type 0 where
+  pub base : Climbable lines b d via chain
+  pub some : 0 < n
+  pub few : n ≤ 2048
+  pub small : x < 2048
+  pub place : ℕ
+  pub room : n + place ≤ base .size
+  pub is-x : base .queue place ≡ x
+  pub last : at chain (n - 1) ≡ x
+  pub first : at chain 0 ≡ d
+  pub above : (i : ℕ) → i < n → (q : ℕ) × (place ≤ q) × (q < base .size) × (at chain i ≡ base .queue q)
+  pub apart : (i j : ℕ) → i < j → j < n → at chain i ≡ at chain j → ⊥
+  pub along : (i : ℕ) → suc i < n → at chain (suc i) ≡ at via (at chain i)
+
+-- a line is written
+abbrev rebased : {lines b d : ℕ} {via chain : List ℕ} (i v : ℕ) → Climbable lines b d via chain → Climbable lines b d via (set chain i v)
+rebased {chain = chain} i v a =
+    record {
+      few = a .few;
+      long = length-set chain i v ∙ a .long;
+      inside = a .inside;
+      size = a .size;
+      queue = a .queue;
+      queued = a .queued;
+      root = a .root;
+      goal = a .goal;
+    }
+
+pub climb-start : (lines b d : ℕ) (via chain : List ℕ) → Climbable lines b d via chain → Climb lines b d 1 d via (set chain 0 d)
+climb-start lines b d via chain a =
+    let s = a .queued .spot d (a .inside) (a .goal) in
+    let here = stored chain 0 d (omega (arith, a .long)) in
+    record {
+      base = rebased 0 d a;
+      some = omega arith;
+      few = omega arith;
+      small = omega (arith, a .inside, a .few);
+      place = s .0;
+      room = omega (arith, s .1);
+      is-x = s .2;
+      last = here;
+      first = here;
+      above = λ i h. let e : i ≡ 0 = omega arith in (s .0, omega arith, s .1, ap (at (set chain 0 d)) e ∙ here ∙ sym (s .2));
+      apart = λ i j h o. absurd (omega arith);
+      along = λ i h. absurd (omega arith);
+    }
+
+module _ (lines b d n x : ℕ) (via chain : List ℕ) (c : Climb lines b d n x via chain) where
+  x-place : c .place < c .base .size
+  x-place = omega (arith, c .room, c .some)
+
+  module _ (far : x ≡ b → ⊥) where
+    above-first : 0 < c .place
+    above-first =
+        cases (eq-or (c .place) 0)
+        (λ e. absurd (far (sym (c .is-x) ∙ ap (c .base .queue) e ∙ c .base .root)))
+        (λ e. let e′ : c .place ≢ 0 = e in omega arith)
+
+    pub climb-room : n < 2048
+    climb-room = omega (arith, above-first, c .room, queue-few (c .base .queued), c .base .few)
+
+    pub climb-less : lines - (n + 1) < lines - n
+    climb-less = omega (arith, above-first, c .room, queue-few (c .base .queued))
+
+    module _ (w : ℕ) (is-w : Wide (at via x) w) where
+      before : (j : ℕ) × (j < c .place) × (at via (c .base .queue (c .place)) ≡ c .base .queue j)
+      before = c .base .queued .earlier (c .place) above-first x-place
+
+      w-is : w ≡ c .base .queue (before .0)
+      w-is = is-w .is ∙ ap (at via) (sym (c .is-x)) ∙ before .2
+
+      new : at (set chain n w) n ≡ w
+      new = stored chain n w (omega (arith, climb-room, c .base .long))
+
+      old : (i : ℕ) → i < n → at (set chain n w) i ≡ at chain i
+      old i h = beside chain n w i (λ e. omega arith)
+
+      -- w stands lower than all lines before
+      other : (i : ℕ) → i < n → at chain i ≡ w → ⊥
+      other i h e =
+          let q = c .above i h in
+          omega (arith, before .1, q .1, c .base .queued .once (q .0) (before .0) (q .2) (omega (arith, before .1, x-place)) (sym (q .3) ∙ e ∙ w-is))
+
+      pub climb-more : Climb lines b d (n + 1) w via (set chain n w)
+      climb-more =
+          let l = before .1 in
+          let k = x-place in
+          record {
+            base = rebased n w (c .base);
+            some = omega arith;
+            few = omega (arith, climb-room);
+            small = omega (arith, c .base .queued .inside (before .0) (omega arith), w-is, c .base .few);
+            place = before .0;
+            room = omega (arith, c .room);
+            is-x = sym w-is;
+            last = let z : n + 1 - 1 ≡ n = omega arith in ap (at (set chain n w)) z ∙ new;
+            first = old 0 (c .some) ∙ c .first;
+            above = λ i h.
+                cases (lt-or i n)
+                (λ o. let q = c .above i o in let r = q .1 in (q .0, omega arith, q .2, old i o ∙ q .3))
+                (λ o. let e : i ≡ n = omega arith in (before .0, omega arith, omega arith, ap (at (set chain n w)) e ∙ new ∙ w-is));
+            apart = λ i j h o e.
+                let o′ : i < n = omega arith in
+                cases (lt-or j n)
+                (λ k′. c .apart i j h k′ (sym (old i o′) ∙ e ∙ old j k′))
+                (λ k′. let z : j ≡ n = omega arith in other i o′ (sym (old i o′) ∙ e ∙ ap (at (set chain n w)) z ∙ new));
+            along = λ i h.
+                let o : i < n = omega arith in
+                cases (lt-or (suc i) n)
+                (λ k′. old (suc i) k′ ∙ c .along i k′ ∙ ap (at via) (sym (old i o)))
+                (λ k′.
+                let z : suc i ≡ n = omega arith in
+                let y : n - 1 ≡ i = omega arith in
+                ap (at (set chain n w)) z ∙ new ∙ is-w .is ∙ ap (at via) (sym (c .last) ∙ ap (at chain) y ∙ sym (old i o)));
+          }
+
+  pub climb-done : x ≡ b → Trail lines b d (at via) n chain
+  climb-done e =
       record {
-        first = e;
-        last = rw q (e ∙ sym (z .3));
-        room = omega (arith, z .1);
-        inside = λ s o. let f : s ≡ 0 = omega arith in rw (f, e) h;
-        later = λ s o. absurd (omega arith);
-        along = λ s o. absurd (omega arith);
-      })
-
-  module _ (p i : ℕ) (line : ℕ → ℕ) (c : Climbed lines d n r p i line) (some : p ≡ 0 → ⊥) where
-    above : 0 < p
-    above = let d′ : p ≢ 0 = some in omega arith
-
-    pub via-less : r .via p < p
-    via-less = g .earlier p above (omega (arith, c .room))
-
-    pub climb-more : (line′ : ℕ → ℕ) → PutAt line (suc i) (r .queue (r .via p)) line′ → Climbed lines d n r (r .via p) (suc i) line′
-    climb-more line′ m =
-        let u = via-less in
-        let h : p < n = omega (arith, c .room) in
-        let h′ : r .via p < n = omega arith in
-        let a = above in
-        let old : (s : ℕ) → s ≤ i → line′ s ≡ line s = λ s o. m .there s (λ q. omega arith) in
-        let here : r .place (line′ i) ≡ suc p = ap (r .place) (old i (omega arith) ∙ c .last) ∙ g .placed p h in
-        record {
-          first = old 0 (omega arith) ∙ c .first;
-          last = m .here;
-          room = omega (arith, c .room);
-          inside = λ s o.
-              cases (lt-or s (suc i)) (λ k. rw (old s (omega arith)) (c .inside s (omega arith)))
-              (λ k. let q : s ≡ suc i = omega arith in rw (q, m .here) (g .inside (r .via p) h′));
-          later = λ s o.
-              cases (lt-or s i) (λ k. rw (old s (omega arith)) (c .later s k))
-              (λ k. let q : s ≡ i = omega arith in rw q (omega arith, omega arith));
-          along = λ s o.
-              cases (lt-or s i) (λ k. rw (old s (omega arith), old (suc s) k) (c .along s k))
-              (λ k.
-              let q : s ≡ i = omega arith in
-              let e : r .place (line′ i) - 1 ≡ p = omega arith in
-              rw q (m .here ∙ ap (λ (x : ℕ). r .queue (r .via x)) (sym e)));
-        }
-
--- .. from a flood: different lines, each with a step to the next
-module _ (lines b d : ℕ) (from to : ℕ → ℕ) (n : ℕ) (r : Reach) (g : Reached lines b from to n r)
-    (i : ℕ) (line : ℕ → ℕ) (c : Climbed lines d n r 0 i line) where
-  -- the line at s is at its place
-  at-place : (s : ℕ) → s < i → r .queue (r .place (line s) - 1) ≡ line s
-  at-place s h =
-      cases (g .queued .spot (line s) (c .inside s (omega arith)))
-      (λ z. absurd (omega (arith, c .later s h)))
-      (λ z. let e : r .place (line s) - 1 ≡ z .0 = omega (arith, z .2) in rw e (z .3))
-
-  falls : (s : ℕ) → s < i → r .place (line (suc s)) < r .place (line s)
-  falls s h =
-      let l = c .later s h in
-      let q = r .place (line s) - 1 in
-      let e = g .queued .earlier q (omega arith) (omega arith) in
-      let p = g .queued .placed (r .via q) (omega arith) in
-      rw (c .along s h) (omega arith)
-
-  step : (s : ℕ) → s < i → Step lines from to (line (suc s)) (line s)
-  step s h =
-      let l = c .later s h in
-      rw (c .along s h)
-      (subst (λ (x : ℕ). Step lines from to (r .queue (r .via (r .place (line s) - 1))) x) (at-place s h)
-      (g .twig (r .place (line s) - 1) (omega arith) (omega arith)))
-
-  lower-by : (s k : ℕ) → suc (s + k) ≤ i → r .place (line (suc (s + k))) < r .place (line s)
-  lower-by s zero h = let z : s + 0 ≡ s = omega arith in rw z (falls s (omega arith))
-  lower-by s (suc k) h =
-      let z : s + suc k ≡ suc (s + k) = omega arith in
-      rw z (omega (arith, falls (suc (s + k)) (omega arith), lower-by s k (omega arith)))
-
-  lower : (s j : ℕ) → s < j → j ≤ i → r .place (line j) < r .place (line s)
-  lower s j h o = let z : j ≡ suc (s + (j - suc s)) = omega arith in rw z (lower-by s (j - suc s) (omega arith))
-
-  differ : (s j : ℕ) → s < suc i → j < suc i → line s ≡ line j → s ≡ j
-  differ s j hs hj e =
-      cases (lt-or s j) (λ o. absurd (omega (arith, lower s j o (omega arith), ap (r .place) e)))
-      (λ o. cases (lt-or j s) (λ o′. absurd (omega (arith, lower j s o′ (omega arith), ap (r .place) e))) (λ o′. omega arith))
-
-  pub chain : SimpleWay lines b d from to (suc i) line
-  chain =
-      record {
-        some = omega arith;
-        few = pigeon line (suc i) lines (λ s h. c .inside s (omega arith)) differ;
+        some = c .some;
         first = c .first;
-        last = λ j h. let z : j ≡ i = omega arith in rw z (c .last ∙ g .root);
-        inside = λ s h. c .inside s (omega arith);
-        apart = differ;
-        steps = λ s h. step s (omega arith);
+        last = λ i h. let z : i ≡ n - 1 = omega arith in ap (at chain) z ∙ c .last ∙ e;
+        inside = λ i h. let q = c .above i h in rw (q .3) (c .base .queued .inside (q .0) (q .2));
+        met = λ i h. let q = c .above i h in rw (q .3) (c .base .queued .met (q .0) (q .2));
+        apart = c .apart;
+        along = c .along;
       }
+
+-- .. after a flood: different lines, each with a joining to the next
+
+module _ (lines b d : ℕ) (g via : List ℕ) (f : Found lines b d g via) where
+  pub rooted : (chain : List ℕ) → Reachable lines b d g chain → Climbable lines b d via chain
+  rooted chain c =
+      record {
+        few = c .sound .few;
+        long = c .long;
+        inside = c .second;
+        size = f .size;
+        queue = at (f .queue);
+        queued = f .reach .queued;
+        root = f .root;
+        goal = f .goal;
+      }
+
+  pub simple-way : (n : ℕ) (chain : List ℕ) → Trail lines b d (at via) n chain → SimpleWay lines b d (columns g) n (at chain)
+  simple-way n chain r =
+      record {
+        some = r .some;
+        few = pigeon (at chain) n lines (r .inside) differ;
+        first = r .first;
+        last = r .last;
+        inside = r .inside;
+        apart = differ;
+        steps = step;
+      }
+    where
+      differ : (i j : ℕ) → i < n → j < n → at chain i ≡ at chain j → i ≡ j
+      differ i j hi hj e =
+          cases (lt-or i j) (λ o. absurd (r .apart i j o hj e))
+          (λ o. cases (lt-or j i) (λ o′. absurd (r .apart j i o′ hi (sym e))) (λ o′. omega arith))
+
+      -- a line before the last is not b, so it is not the first of the queue
+      step : (i : ℕ) → suc i < n → Step lines (columns g) (at chain (suc i)) (at chain i)
+      step i h =
+          let h′ : i < n = omega arith in
+          let q = f .reach .queued .spot (at chain i) (r .inside i h′) (r .met i h′) in
+          let z : suc (n - 1) ≡ n = omega arith in
+          let some : 0 < q .0 = cases (eq-or (q .0) 0)
+          (λ e. absurd (r .apart i (n - 1) (omega arith) (omega arith) (sym (q .2) ∙ ap (at (f .queue)) e ∙ f .root ∙ sym (r .last (n - 1) z))))
+          (λ e. let e′ : q .0 ≢ 0 = e in omega arith) in
+          rw (r .along i h)
+          (subst (λ (y : ℕ). Step lines (columns g) (at via y) y) (q .2) (f .reach .twig (q .0) some (q .1)))

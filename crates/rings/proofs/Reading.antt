@@ -6,13 +6,14 @@ use mathlib.Core.Path.{_≡_, sym, _∙_, ap}
 use Prim.Native.Nat.{ℕ, suc, _+_, _-_, _*_, _%_, _≤_, _<_}
 use native.Mathlib.Omega.{arith}
 use lib.Dec.{eqb, leb}
-use lib.ListN.{length, set}
+use lib.ListN.{set}
 use borrow.Author.Tests.{eq-eqb, ne-eqb, eqb-true, eqb-false, leb-true, leb-false}
 use Rattle.laws.specs.Lists.{at}
 use Rattle.laws.proofs.Cases.{cases, bool, eq-or}
 use Rattle.groups.specs.Calls.{Wide}
+use Rattle.groups.specs.Groups.{columns}
 use Rattle.groups.proofs.Filling.{Filled, filled-more}
-use Rattle.rings.specs.Rings.{LowestPlace, wrap, kindOf, spotOf, linkOf, Spot, StepPlace, Upward, Tracing, TracedLines, TracedKinds}
+use Rattle.rings.specs.Rings.{LowestPlace, wrap, kindOf, spotOf, linkOf, Spot, StepPlace, Upward, Readable, TracedLines, TracedKinds}
 use Rattle.rings.proofs.Circles.{wrap-low, wrap-high, wrap-within}
 
 -- Places round the circle
@@ -56,11 +57,8 @@ module _ (n : ℕ) (chain : List ℕ) where
       record { some = omega arith; upto = omega arith; least = record { within = omega arith; low = λ i o. let e : i ≡ 0 = omega arith in rw e (omega arith) } }
 
   module _ (i m : ℕ) (s : Seen n i chain m) (h : i < n) where
-    pub lowest-inside : n ≤ length chain → m < length chain
+    pub lowest-inside : n ≤ 2048 → m < 2048
     lowest-inside o = omega (arith, s .least .within)
-
-    pub lowest-fits : n ≤ 2048 → m * 2 < 18446744073709551616
-    lowest-fits o = omega (arith, s .least .within)
 
     pub seen-lower : at chain i < at chain m → Seen n (i + 1) chain i
     seen-lower l =
@@ -91,24 +89,28 @@ module _ (n : ℕ) (chain : List ℕ) where
 
 -- Kinds
 
-module _ (n k : ℕ) (parity chain : List ℕ) (i : ℕ) where
-  pub kind-home : i + 1 ≡ n → k ≡ kindOf (at parity) (at chain) n k i
+pub parities-sum : (x y r r′ : ℕ) (g : List ℕ) → Wide (at g (2048 + x)) r → Wide (at g (2048 + y)) r′
+    → (r + r′) % 2 ≡ (columns g .parity x + columns g .parity y) % 2
+parities-sum x y r r′ g e e′ = rw (e .is, e′ .is)
+
+module _ (n k : ℕ) (g chain : List ℕ) (i : ℕ) where
+  pub kind-home : i + 1 ≡ n → k ≡ kindOf (columns g .parity) (at chain) n k i
   unfolding kindOf
   kind-home e = rw (eq-eqb (suc i) n (omega arith))
 
-  pub kind-here : (w : ℕ) → Wide (at chain i) w → Tracing n k parity chain → i < n → w < length parity
-  kind-here w e t h = omega (arith, e .is, t .parities i h)
+  pub kind-here : (w : ℕ) → Wide (at chain i) w → Readable n chain → i < n → w < 2048
+  kind-here w e t h = omega (arith, e .is, t .small i h)
 
-  pub kind-there : (w : ℕ) → Wide (at chain (i + 1)) w → Tracing n k parity chain → i < n → (i + 1 ≡ n → ⊥) → w < length parity
-  kind-there w e t h d = let d′ : i + 1 ≢ n = d in omega (arith, e .is, t .parities (i + 1) (omega arith))
+  pub kind-there : (w : ℕ) → Wide (at chain (i + 1)) w → Readable n chain → i < n → (i + 1 ≡ n → ⊥) → w < 2048
+  kind-there w e t h d = let d′ : i + 1 ≢ n = d in omega (arith, e .is, t .small (i + 1) (omega arith))
 
-  pub kind-on : (r v w : ℕ) → (i + 1 ≡ n → ⊥) → Wide (at chain i) v → Wide (at chain (i + 1)) w → r ≡ (at parity v + at parity w + 0) % 2
-      → r ≡ kindOf (at parity) (at chain) n k i
+  pub kind-on : (r v w : ℕ) → (i + 1 ≡ n → ⊥) → Wide (at chain i) v → Wide (at chain (i + 1)) w → r ≡ (columns g .parity v + columns g .parity w) % 2
+      → r ≡ kindOf (columns g .parity) (at chain) n k i
   unfolding kindOf
   kind-on r v w d a b e =
       let d′ : i + 1 ≢ n = d in
       let z : i + 1 ≡ suc i = omega arith in
-      rw (ne-eqb (suc i) n (λ q. omega arith), ← z, ← a .is, ← b .is) (e ∙ ap (λ (y : ℕ). y % 2) (omega arith))
+      rw (ne-eqb (suc i) n (λ q. omega arith), ← z, ← a .is, ← b .is) e
 
 -- The direction
 
@@ -129,17 +131,18 @@ pub upward-more : (n m k r r′ : ℕ) (chain : List ℕ) → r ≡ wrap n (m + 
     → Upward n k (at chain (wrap n (m + 1))) (at chain (wrap n (m + n - 1))) (leb (at chain r) (at chain r′))
 upward-more n m k r r′ chain e e′ d = rw (e, e′) (larger n m k (at chain (wrap n (m + 1))) (at chain (wrap n (m + n - 1))) d)
 
-pub next-inside : (n m r k : ℕ) (parity chain : List ℕ) → r ≡ wrap n (m + 1) → Tracing n k parity chain → m < n → (n ≡ 2 → ⊥) → r < length chain
-next-inside n m r k parity chain e t h d = omega (arith, t .chains, wrap-within n (m + 1) (omega arith))
+module _ (n m r : ℕ) (chain : List ℕ) (t : Readable n chain) (h : m < n) where
+  pub next-inside : r ≡ wrap n (m + 1) → (n ≡ 2 → ⊥) → r < 2048
+  next-inside e d = omega (arith, t .few, wrap-within n (m + 1) (omega arith))
 
-pub next-fits : (n m r k : ℕ) (parity chain : List ℕ) → r ≡ wrap n (m + 1) → Tracing n k parity chain → m < n → (n ≡ 2 → ⊥) → r * 2 < 18446744073709551616
-next-fits n m r k parity chain e t h d = omega (arith, t .few, wrap-within n (m + 1) (omega arith))
+  pub next-fits : r ≡ wrap n (m + 1) → (n ≡ 2 → ⊥) → r * 2 < 18446744073709551616
+  next-fits e d = omega (arith, next-inside e d)
 
-pub before-fits : (n m r k : ℕ) (parity chain : List ℕ) → r ≡ wrap n (m + n - 1) → Tracing n k parity chain → m < n → r * 2 < 18446744073709551616
-before-fits n m r k parity chain e t h = omega (arith, t .few, wrap-within n (m + n - 1) (omega arith))
+  pub before-inside : r ≡ wrap n (m + n - 1) → r < 2048
+  before-inside e = omega (arith, t .few, wrap-within n (m + n - 1) (omega arith))
 
-pub before-inside : (n m r k : ℕ) (parity chain : List ℕ) → r ≡ wrap n (m + n - 1) → Tracing n k parity chain → m < n → r < length chain
-before-inside n m r k parity chain e t h = omega (arith, t .chains, wrap-within n (m + n - 1) (omega arith))
+  pub before-fits : r ≡ wrap n (m + n - 1) → r * 2 < 18446744073709551616
+  before-fits e = omega (arith, before-inside e)
 
 -- Writing
 
@@ -147,7 +150,7 @@ unfoldable pub RingLines : List ℕ → ℕ → ℕ → Bool → ℕ → ℕ →
 RingLines chain n m up j v = v ≡ at chain (spotOf n m up j)
 
 unfoldable pub RingKinds : List ℕ → List ℕ → ℕ → ℕ → Bool → ℕ → ℕ → ℕ → Type 0
-RingKinds parity chain n m up k j v = v ≡ kindOf (at parity) (at chain) n k (linkOf n m up j)
+RingKinds g chain n m up k j v = v ≡ kindOf (columns g .parity) (at chain) n k (linkOf n m up j)
 
 module _ (n m : ℕ) (up : Bool) (chain old : List ℕ) (j : ℕ) (l : List ℕ) (f : Filled (RingLines chain n m up) n j old l) where
   pub lines-more : (r : ℕ) → Spot n m up j r → j < n → Filled (RingLines chain n m up) n (j + 1) old (set l j (at chain r))
@@ -158,12 +161,12 @@ module _ (n m : ℕ) (up : Bool) (chain old : List ℕ) (j : ℕ) (l : List ℕ)
   unfolding RingLines
   lines-traced h = record { written = λ i o. f .done i (omega arith); rest = λ i o. f .rest i (omega (arith, f .upto)) }
 
-module _ (n m : ℕ) (up : Bool) (k : ℕ) (parity chain old : List ℕ) (j : ℕ) (l : List ℕ) (f : Filled (RingKinds parity chain n m up k) n j old l) where
-  pub kinds-more : (r v : ℕ) → StepPlace n m up j r → j < n → v ≡ kindOf (at parity) (at chain) n k r
-      → Filled (RingKinds parity chain n m up k) n (j + 1) old (set l j v)
+module _ (n m : ℕ) (up : Bool) (k : ℕ) (g chain old : List ℕ) (j : ℕ) (l : List ℕ) (f : Filled (RingKinds g chain n m up k) n j old l) where
+  pub kinds-more : (r v : ℕ) → StepPlace n m up j r → j < n → v ≡ kindOf (columns g .parity) (at chain) n k r
+      → Filled (RingKinds g chain n m up k) n (j + 1) old (set l j v)
   unfolding RingKinds
-  kinds-more r v s h e = filled-more f h (e ∙ ap (kindOf (at parity) (at chain) n k) (s .is))
+  kinds-more r v s h e = filled-more f h (e ∙ ap (kindOf (columns g .parity) (at chain) n k) (s .is))
 
-  pub kinds-traced : n ≤ j → TracedKinds (at parity) (at chain) n m up k old l
+  pub kinds-traced : n ≤ j → TracedKinds (columns g .parity) (at chain) n m up k old l
   unfolding RingKinds
   kinds-traced h = record { written = λ i o. f .done i (omega arith); rest = λ i o. f .rest i (omega (arith, f .upto)) }

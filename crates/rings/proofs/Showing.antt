@@ -11,10 +11,9 @@ use Rattle.laws.specs.Lists.{at}
 use Rattle.laws.proofs.Cases.{cases, eq-or, lt-or}
 use Rattle.groups.specs.Constraints.{Constraints, Between, More, Sided}
 use Rattle.groups.specs.Groups.{Tables, Grouped}
-use Rattle.groups.specs.Calls.{joined}
-use Rattle.groups.specs.declared.Joining.the-variants.{Conflicts}
 use Rattle.groups.proofs.Ways.{way-append, way-turn}
-use Rattle.rings.specs.Rings.{Noted, Torn, SimpleWay, LowestPlace, wrap, kindOf, spotOf, linkOf, Upward, TracedLines, TracedKinds, Shown}
+use Rattle.rings.specs.Flooding.{SimpleWay}
+use Rattle.rings.specs.Rings.{Noted, Torn, LowestPlace, wrap, kindOf, spotOf, linkOf, Upward, TracedLines, TracedKinds, Shown}
 use Rattle.rings.specs.Ring.{Ring}
 use Rattle.rings.proofs.Rings.{ring-map, ring-agree}
 use Rattle.rings.proofs.Circles.{wrap-low, wrap-high, Hop, Circle, up-ring, down-ring}
@@ -27,14 +26,17 @@ kind-step : (parity line : ℕ → ℕ) (n k i : ℕ) → (suc i ≡ n → ⊥) 
 unfolding kindOf
 kind-step parity line n k i e = rw (ne-eqb (suc i) n e)
 
-module _ (lines b d k : ℕ) (parity from to : ℕ → ℕ) where
+module _ (lines b d k : ℕ) (t : Tables) where
   abbrev Links : Constraints
-  Links = Between (Noted lines parity from to b d k)
+  Links = Between (Noted lines t b d k)
+
+  abbrev parity : ℕ → ℕ
+  parity = t .parity
 
   turned : (u v z : ℕ) → Links u v z → Links v u z
   turned u v z l = cases l inr inl
 
-  module _ (torn : Torn lines parity from to b d k) (n : ℕ) (line : ℕ → ℕ) (c : SimpleWay lines b d from to n line) where
+  module _ (torn : Torn lines t b d k) (n : ℕ) (line : ℕ → ℕ) (c : SimpleWay lines b d t n line) where
     kind : ℕ → ℕ
     kind = kindOf parity line n k
 
@@ -104,7 +106,7 @@ module _ (lines b d k : ℕ) (parity from to : ℕ → ℕ) where
           (w .written) (w′ .written)
 
       pub shown : (up : Bool) (ring ring′ kinds kinds′ : List ℕ) → Upward n (kindOf parity line n k m) (line (wrap n (m + 1))) (line (wrap n (m + n - 1))) up
-          → TracedLines line n m up ring ring′ → TracedKinds parity line n m up k kinds kinds′ → Shown lines parity from to b d k n ring kinds ring′ kinds′
+          → TracedLines line n m up ring ring′ → TracedKinds parity line n m up k kinds kinds′ → Shown lines t b d k n ring kinds ring′ kinds′
       shown true ring ring′ kinds kinds′ u w w′ =
           record { few = c .few; is-ring = up-shown ring ring′ kinds kinds′ u w w′; ring-rest = w .rest; kinds-rest = w′ .rest }
       shown false ring ring′ kinds kinds′ u w w′ =
@@ -112,28 +114,28 @@ module _ (lines b d k : ℕ) (parity from to : ℕ → ℕ) where
 
 -- What a conflict leaves, and what the ring shows
 
-module _ (lines : ℕ) (back : ℕ → Bool) (P : Constraints) (t t′ : Tables) (g : Grouped lines back P t) (b d k : ℕ)
-    (hb : Sided lines back b) (hd : Sided lines back d) where
-  pub torn : lines ≤ 2048 → k ≤ 1 → (b ≡ d → ⊥) → joined lines b d k t t′ Conflicts → Torn lines (t .parity) (t .from) (t .to) b d k
-  torn few small apart j =
+module _ (lines : ℕ) (back : ℕ → Bool) (P : Constraints) (t : Tables) (g : Grouped lines back P t) (b d k : ℕ) where
+  pub torn : Sided lines back b → Sided lines back d → lines ≤ 2048 → k ≤ 1 → (b ≡ d → ⊥) → t .leader b ≡ t .leader d
+      → (t .parity b + t .parity d + k) % 2 ≡ 1 → Torn lines t b d k
+  torn hb hd few small apart together odd =
       record {
         few = few;
         first = hb .within;
         second = hd .within;
         apart = apart;
         small = small;
-        odd = j .1;
+        odd = odd;
         inside = g .inside;
-        way = way-append (way-turn (g .way b hb)) (rw (← j .0) at (g .way d hd));
+        way = way-append (way-turn (g .way b hb)) (rw (← together) at (g .way d hd));
       }
 
-  pub ring-shown : (n : ℕ) (ring kinds ring′ kinds′ : List ℕ) → Shown lines (t .parity) (t .from) (t .to) b d k n ring kinds ring′ kinds′
+  pub ring-shown : (n : ℕ) (ring kinds ring′ kinds′ : List ℕ) → Shown lines t b d k n ring kinds ring′ kinds′
       → Ring (Between (More P b d k)) n (at ring′) (at kinds′)
   ring-shown n ring kinds ring′ kinds′ s =
-      ring-map (Between (Noted lines (t .parity) (t .from) (t .to) b d k)) (Between (More P b d k)) n (at ring′) (at kinds′)
+      ring-map (Between (Noted lines t b d k)) (Between (More P b d k)) n (at ring′) (at kinds′)
       (λ u v z o l. cases l (λ x. inl (link u v z o x)) (λ x. inr (link v u z (λ e. o (sym e)) x))) (s .is-ring)
     where
-      link : (u v z : ℕ) → (u ≡ v → ⊥) → Noted lines (t .parity) (t .from) (t .to) b d k u v z → More P b d k u v z
+      link : (u v z : ℕ) → (u ≡ v → ⊥) → Noted lines t b d k u v z → More P b d k u v z
       link u v z o (inl (j, e)) =
           cases (g .taken (j .place) (j .within))
           (λ q. absurd (o (sym (j .is-from) ∙ q ∙ j .is-to)))

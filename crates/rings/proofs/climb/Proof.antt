@@ -1,76 +1,54 @@
--- `climb` goes from each line to the one that it was reached from; places fall.
-use Rattle.rings.proofs.Finding.{Climbs, climbs-start, chain-room, via-falls, via-inside, via-fits, climbs-more, trail}
-use mathlib.Core.Path.{_∙_}
-use lib.ListN.{length-set}
+-- `climb` goes from each line to the one that it was reached from, until that is b.
+use Prim.Native.Nat.{_-_}
+use Rattle.rings.proofs.Climbing.{Climb, climb-start, climb-room, climb-less, climb-more, climb-done}
 use borrow.Author.Needs.{needs}
 use Rattle.rings.proofs.climb.Statement.{statement}
 use Rattle.rings.proofs.climb.Tie as tie
 
 abbrev Inv-loop : tie.InvT-loop
-Inv-loop lines d n queue via place chain₀ p₀ i₀ chain p i = Climbs lines d n p i queue via place chain₀ chain
+Inv-loop lines b d via chain₀ x₀ n₀ chain x n = Climb lines b d n x via chain
 
 abbrev μ-loop : tie.MeasureT-loop
-μ-loop lines d n queue via place chain₀ p₀ i₀ chain p i = p
-
-mul-wide : tie.Need-mul-wide Inv-loop μ-loop
-mul-wide c = search needs
-
-shared-slice-read-wide : tie.Need-shared-slice-read-wide Inv-loop μ-loop
-shared-slice-read-wide c = search needs
-
-wide-requires : tie.Need-wide-requires Inv-loop μ-loop
-wide-requires c κs = search needs
-
-sub-p : tie.Need-sub-p Inv-loop μ-loop
-sub-p c = search needs
+μ-loop lines b d via chain₀ x₀ n₀ chain x n = lines - n
 
 cast-chain : tie.Need-cast-chain Inv-loop μ-loop
 cast-chain c = search needs
 
-slice-write-chain : tie.Need-slice-write-chain Inv-loop μ-loop
-slice-write-chain c = search needs
+element-write-chain : tie.Need-element-write-chain Inv-loop μ-loop
+element-write-chain c = search needs
 
 loop-holds : tie.Need-loop-holds Inv-loop μ-loop
-loop-holds c = search climbs-start
+loop-holds c = search climb-start
 
-mul-wide-2 : tie.Need-mul-wide-2 Inv-loop μ-loop
-mul-wide-2 c = search needs
+mul-wide : tie.Need-mul-wide Inv-loop μ-loop
+mul-wide c = search needs
 
-shared-slice-read-wide-2 : tie.Need-shared-slice-read-wide-2 Inv-loop μ-loop
-shared-slice-read-wide-2 c = search needs
+element-copy-out-wide : tie.Need-element-copy-out-wide Inv-loop μ-loop
+element-copy-out-wide c = search needs
 
-wide-requires-2 : tie.Need-wide-requires-2 Inv-loop μ-loop
-wide-requires-2 c κs = search needs
+wide-requires : tie.Need-wide-requires Inv-loop μ-loop
+wide-requires c κs = search needs
 
-add-i : tie.Need-add-i Inv-loop μ-loop
-add-i c = search needs
+cast-chain-2 : tie.Need-cast-chain-2 Inv-loop μ-loop
+cast-chain-2 c = search needs
 
 mul-chain : tie.Need-mul-chain Inv-loop μ-loop
-mul-chain c = record { fits = search via-fits }
+mul-chain c = search needs
 
-shared-slice-read-chain : tie.Need-shared-slice-read-chain Inv-loop μ-loop
-shared-slice-read-chain c = search via-inside
+element-write-chain-2 : tie.Need-element-write-chain-2 Inv-loop μ-loop
+element-write-chain-2 c = search climb-room
 
-mul-chain-2 : tie.Need-mul-chain-2 Inv-loop μ-loop
-mul-chain-2 c = search needs
-
-slice-write-chain-2 : tie.Need-slice-write-chain-2 Inv-loop μ-loop
-slice-write-chain-2 c = search chain-room
+add-n : tie.Need-add-n Inv-loop μ-loop
+add-n c = search needs
 
 loop-less : tie.Need-loop-less Inv-loop μ-loop
-loop-less c = search via-falls
+loop-less c = search climb-less
 
 loop-again : tie.Need-loop-again Inv-loop μ-loop
-loop-again c = search climbs-more
-
-add-result : tie.Need-add-result Inv-loop μ-loop
-add-result c = search needs
-
-same-length : tie.Need-same-length Inv-loop μ-loop
-same-length c = c .before .loop .inv .long ∙ simp length-set
+loop-again c = search climb-more
 
 returns : tie.Need-returns Inv-loop μ-loop
-returns c = search trail
+returns c = search climb-done
 
 pub climb-spec : {M : Type 1} → statement M
 climb-spec =
@@ -78,23 +56,16 @@ climb-spec =
     (tie.spec
     Inv-loop
     μ-loop
-    mul-wide
-    shared-slice-read-wide
-    wide-requires
-    sub-p
     cast-chain
-    slice-write-chain
+    element-write-chain
     loop-holds
-    mul-wide-2
-    shared-slice-read-wide-2
-    wide-requires-2
-    add-i
+    mul-wide
+    element-copy-out-wide
+    wide-requires
+    cast-chain-2
     mul-chain
-    shared-slice-read-chain
-    mul-chain-2
-    slice-write-chain-2
+    element-write-chain-2
+    add-n
     loop-less
     loop-again
-    add-result
-    same-length
     returns)

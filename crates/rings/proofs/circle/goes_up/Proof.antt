@@ -19,8 +19,8 @@ around-requires c κs = search needs
 mul-result : tie.Need-mul-result
 mul-result c = record { fits = search next-fits }
 
-shared-slice-read-result : tie.Need-shared-slice-read-result
-shared-slice-read-result c = search next-inside
+element-copy-out-result : tie.Need-element-copy-out-result
+element-copy-out-result c = search next-inside
 
 add-around-2 : tie.Need-add-around-2
 add-around-2 c = search needs
@@ -34,8 +34,8 @@ around-requires-2 c κs = search needs
 mul-result-2 : tie.Need-mul-result-2
 mul-result-2 c = record { fits = search before-fits }
 
-shared-slice-read-result-2 : tie.Need-shared-slice-read-result-2
-shared-slice-read-result-2 c = search before-inside
+element-copy-out-result-2 : tie.Need-element-copy-out-result-2
+element-copy-out-result-2 c = search before-inside
 
 returns-2 : tie.Need-returns-2
 returns-2 c = search upward-more
@@ -49,10 +49,10 @@ goes-up-spec =
     add-around
     around-requires
     mul-result
-    shared-slice-read-result
+    element-copy-out-result
     add-around-2
     sub-around
     around-requires-2
     mul-result-2
-    shared-slice-read-result-2
+    element-copy-out-result-2
     returns-2)

@@ -13,14 +13,11 @@ returns c = search kind-home
 mul-wide : tie.Need-mul-wide
 mul-wide c = search needs
 
-shared-slice-read-wide : tie.Need-shared-slice-read-wide
-shared-slice-read-wide c = search needs
+element-copy-out-wide : tie.Need-element-copy-out-wide
+element-copy-out-wide c = search needs
 
 wide-requires : tie.Need-wide-requires
 wide-requires c κs = search needs
-
-shared-slice-read-odd : tie.Need-shared-slice-read-odd
-shared-slice-read-odd c = search kind-here
 
 add-wide : tie.Need-add-wide
 add-wide c = search needs
@@ -28,17 +25,14 @@ add-wide c = search needs
 mul-wide-2 : tie.Need-mul-wide-2
 mul-wide-2 c = search needs
 
-shared-slice-read-wide-2 : tie.Need-shared-slice-read-wide-2
-shared-slice-read-wide-2 c = search needs
+element-copy-out-wide-2 : tie.Need-element-copy-out-wide-2
+element-copy-out-wide-2 c = search needs
 
 wide-requires-2 : tie.Need-wide-requires-2
 wide-requires-2 c κs = search needs
 
-shared-slice-read-odd-2 : tie.Need-shared-slice-read-odd-2
-shared-slice-read-odd-2 c = search kind-there
-
-odd-requires : tie.Need-odd-requires
-odd-requires c κs = search needs
+kind-between-requires : tie.Need-kind-between-requires
+kind-between-requires c κs = (search kind-here, search kind-there)
 
 returns-2 : tie.Need-returns-2
 returns-2 c = search kind-on
@@ -50,13 +44,11 @@ kind-at-spec =
     add-if1
     returns
     mul-wide
-    shared-slice-read-wide
+    element-copy-out-wide
     wide-requires
-    shared-slice-read-odd
     add-wide
     mul-wide-2
-    shared-slice-read-wide-2
+    element-copy-out-wide-2
     wide-requires-2
-    shared-slice-read-odd-2
-    odd-requires
+    kind-between-requires
     returns-2)

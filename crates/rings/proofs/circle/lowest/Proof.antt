@@ -1,6 +1,6 @@
 -- `lowest` keeps the place of the lowest line so far.
-use Rattle.rings.proofs.Reading.{Seen, seen-one, lowest-inside, lowest-fits, seen-lower, seen-other, seen-all}
 use Prim.Native.Nat.{_-_}
+use Rattle.rings.proofs.Reading.{Seen, seen-one, lowest-inside, seen-lower, seen-other, seen-all}
 use borrow.Author.Needs.{needs}
 use Rattle.rings.proofs.circle.lowest.Statement.{statement}
 use Rattle.rings.proofs.circle.lowest.Tie as tie
@@ -20,14 +20,14 @@ add-after c = search needs
 mul-if1 : tie.Need-mul-if1 Inv-loop μ-loop
 mul-if1 c = search needs
 
-shared-slice-read-if1 : tie.Need-shared-slice-read-if1 Inv-loop μ-loop
-shared-slice-read-if1 c = search needs
+element-copy-out-if1 : tie.Need-element-copy-out-if1 Inv-loop μ-loop
+element-copy-out-if1 c = search needs
 
 mul-if1-2 : tie.Need-mul-if1-2 Inv-loop μ-loop
-mul-if1-2 c = record { fits = search lowest-fits }
+mul-if1-2 c = search needs
 
-shared-slice-read-if1-2 : tie.Need-shared-slice-read-if1-2 Inv-loop μ-loop
-shared-slice-read-if1-2 c = search lowest-inside
+element-copy-out-if1-2 : tie.Need-element-copy-out-if1-2 Inv-loop μ-loop
+element-copy-out-if1-2 c = search lowest-inside
 
 loop-less : tie.Need-loop-less Inv-loop μ-loop
 loop-less c = search needs
@@ -53,9 +53,9 @@ lowest-spec =
     loop-holds
     add-after
     mul-if1
-    shared-slice-read-if1
+    element-copy-out-if1
     mul-if1-2
-    shared-slice-read-if1-2
+    element-copy-out-if1-2
     loop-less
     loop-again
     loop-less-2

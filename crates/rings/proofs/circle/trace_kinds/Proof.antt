@@ -7,10 +7,10 @@ use Rattle.rings.proofs.circle.trace_kinds.Statement.{statement}
 use Rattle.rings.proofs.circle.trace_kinds.Tie as tie
 
 abbrev Inv-loop : tie.InvT-loop
-Inv-loop n m up kind parity chain kinds₀ j₀ kinds j = Filled (RingKinds parity chain n m up kind) n j kinds₀ kinds
+Inv-loop n m up kind groups chain kinds₀ j₀ kinds j = Filled (RingKinds groups chain n m up kind) n j kinds₀ kinds
 
 abbrev μ-loop : tie.MeasureT-loop
-μ-loop n m up kind parity chain kinds₀ j₀ kinds j = n - j
+μ-loop n m up kind groups chain kinds₀ j₀ kinds j = n - j
 
 loop-holds : tie.Need-loop-holds Inv-loop μ-loop
 loop-holds c = search filled-none

@@ -21,8 +21,8 @@ spot-requires c κs = search needs
 mul-ring : tie.Need-mul-ring Inv-loop μ-loop
 mul-ring c = search needs
 
-shared-slice-read-ring : tie.Need-shared-slice-read-ring Inv-loop μ-loop
-shared-slice-read-ring c = search needs
+element-copy-out-ring : tie.Need-element-copy-out-ring Inv-loop μ-loop
+element-copy-out-ring c = search needs
 
 mul-ring-2 : tie.Need-mul-ring-2 Inv-loop μ-loop
 mul-ring-2 c = search needs
@@ -54,7 +54,7 @@ trace-lines-spec =
     loop-holds
     spot-requires
     mul-ring
-    shared-slice-read-ring
+    element-copy-out-ring
     mul-ring-2
     slice-write-ring
     add-j
