@@ -1,0 +1,2 @@
+-- What comes of taking links into the groups.
+pub mod Inside

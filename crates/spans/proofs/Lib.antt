@@ -1,0 +1,4 @@
+pub mod Spanning
+pub mod Buckets
+pub mod Lowering
+pub mod Knowing

@@ -1,0 +1,2 @@
+-- The tables that the two walks go by.
+pub mod Inside
