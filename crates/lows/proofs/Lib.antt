@@ -1,0 +1,3 @@
+pub mod Plumbing
+pub mod Lessening
+pub mod Comparing

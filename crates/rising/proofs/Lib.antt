@@ -1,0 +1,4 @@
+pub mod Passing
+pub mod Sinking
+pub mod Settling
+pub mod Rising

@@ -1,0 +1,2 @@
+-- The walk by rising ends.
+pub mod Inside
