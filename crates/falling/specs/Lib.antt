@@ -1,0 +1,3 @@
+-- The walk by falling ends.
+pub mod Inside
+pub mod Down

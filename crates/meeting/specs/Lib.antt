@@ -1,0 +1,3 @@
+-- Lines of a fork that meet.
+pub mod Inside
+pub mod Facing
