@@ -1,0 +1,3 @@
+pub mod Sorting
+pub mod Walking
+pub mod Grouping

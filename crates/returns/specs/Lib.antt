@@ -1,2 +1,0 @@
--- What each line's returns are like, as tables.
-pub mod Inside
