@@ -1,4 +1,4 @@
--- What first choice and next choice return, one lemma for each place where they do.
+-- What first choice returns, one lemma for each place where it does; and what the groups of a tree say of its choices.
 use mathlib.Core.Bool.{Bool, true, false}
 use mathlib.Core.List.{List}
 use mathlib.Core.Logic.{inl, inr}
@@ -18,71 +18,34 @@ use Rattle.network.specs.Network.{Network, network}
 use Rattle.network.specs.Numbers.{refused, done, oversize, odd, Untouched, triple}
 use Rattle.network.specs.declared.Answer.{Answer}
 use Rattle.network.proofs.Sifting.{refuse-2, refuse-3, refuse-rest, untouched}
-use Rattle.tree.specs.Tree.{Tree, tree-of}
+use Rattle.tree.specs.Tree.{Tree}
 use Rattle.tree.specs.Returns.{backb}
 use Rattle.tree.specs.Words.{Return}
-use Rattle.tree.proofs.Searched.{Searched}
+use Rattle.tree.specs.Searched.{Searched}
 use Rattle.tree.proofs.Returns.{one-way}
-use Rattle.tree.proofs.Grown.{searched}
 use Rattle.search.specs.Machine.{tree-in}
-use Rattle.search.specs.Orient.{Explored, unsearched, searched as searched-of, back-lines}
-use Rattle.search.specs.declared.Search.{Search}
-use Rattle.search.proofs.Deep.{finished-both}
-use Rattle.search.proofs.Grows.{grown, line-kind, backs-counted}
-use Rattle.search.proofs.Calls.{explored}
 use Rattle.fork.specs.Ends.{top}
 use Rattle.fork.specs.Fork.{Constraint}
 use Rattle.fork.specs.Link.{Link, to-top, tops, to-bottom, turned}
-use Rattle.fork.specs.Inside.{Known}
 use Rattle.fork.proofs.Ends.{top-is, high-some}
 use Rattle.groups.specs.Constraints.{Satisfies}
-use Rattle.groups.specs.Groups.{Tables, tables, fitsb}
+use Rattle.groups.specs.Groups.{Tables, columns, fitsb}
 use Rattle.groups.specs.Calls.{Reading, Copied, Advanced, Stuck}
-use Rattle.rings.specs.Rings.{Showing, Shown}
 use Rattle.groups.proofs.Answers.{copied-first, advanced-next, stuck-last, reading}
 use Rattle.groups.proofs.Choosing.{fits-obeys, obeys-fits}
 use Rattle.rings.specs.Ring.{Ring}
+use Rattle.rings.specs.Rings.{Showing, Shown}
 use Rattle.rings.proofs.Showing.{torn, ring-shown}
+use Rattle.links.specs.Inside.{Closed, Taken, Together, Unkept}
+use Rattle.links.specs.declared.Tie.{Tie}
+use Rattle.links.specs.declared.Tie.the-variants.{Holds, Tears}
+use Rattle.links.proofs.Tying.{link-sided}
+use Rattle.descents.specs.Inside.{Sorted, all-kept, one-torn}
 use Rattle.choice.specs.Choice.{Drawable, Proper, Outdone}
 use Rattle.choice.specs.Calls.{cramped-first, Chosen, Ringed, FirstChoice}
-use Rattle.ties.specs.Inside.{Closed, Taken, Together, Unkept}
-use Rattle.grouping.specs.Inside.{Sorted, all-kept, one-torn, Grouping}
-use Rattle.grouping.specs.declared.Groups.{Groups}
-use Rattle.ties.specs.declared.Tie.the-variants.{Holds, Tears}
-use Rattle.ties.proofs.Tying.{link-back}
+use Rattle.choice.specs.Inside.{Gathered}
 use Rattle.choice.proofs.Proper.{proper-obeys, obeys-proper, none-drawable, none-proper, ring-constraints}
-
--- What a search with the number 0 leaves
-
-module _ (n : ℕ) (ends : List ℕ) (q : Search) (x : Explored n ends q) (z : q .number ≡ 0) where
-  pub explored-known : Known n (length ends / 2) ends (q .kinds) (q .heights) (q .parents)
-  explored-known =
-      let f = explored n ends q x z in
-      let net = network n ends in
-      let s = finished-both net (f .0) .0 in
-      rw (f .2)
-      (record {
-        grown = grown net (f .0) (f .1);
-        every = line-kind net (f .0) (f .1);
-        few-vertices = f .0 .few-vertices;
-        few-lines = f .0 .few-lines;
-        ends-long = f .0 .ends-long;
-        kinds-long = s .kinds-long;
-        heights-long = s .heights-long;
-        parents-long = s .parents-long;
-      })
-
-  pub explored-tree : tree-of n (length ends / 2) ends (q .kinds) (q .heights) (q .parents) ≡ tree-in (network n ends)
-  explored-tree = let e = explored n ends q x z .2 in rw e
-
-  pub explored-counted : back-lines (network n ends) + n ≡ length ends / 2 + 1
-  explored-counted = let f = explored n ends q x z in backs-counted (network n ends) (f .0) (f .1)
-
-  pub explored-fits : n ≤ length ends / 2 + 1
-  explored-fits = omega (arith, explored-counted)
-
-  pub explored-done : done (length ends / 2 + 1 - n) 0 ≡ done (back-lines (network n ends)) 0
-  explored-done = let e : length ends / 2 + 1 - n ≡ back-lines (network n ends) = omega (arith, explored-counted) in ap (λ (k : ℕ). done k 0) e
+use Rattle.choice.proofs.Faultless.{faultless-searched, faultless-few, faultless-done}
 
 pub past-kept : {n : ℕ} {old new : List ℕ} → length new ≡ length old → Past n old new → Kept n old new
 past-kept l p = record { long = l; past = p }
@@ -104,13 +67,13 @@ link-apart S X (tops f g k o) e =
     let q = high-some S g (omega (arith, o .under)) in
     k .apart (one-way S X f g (top S f) (k .first) (k .second) (k .one-vertex) (top-is S f (p .0) (p .1) .return) (subst (λ (x : ℕ). Return S g x) (sym e) (top-is S g (q .0) (q .1) .return)))
 
-module _ (S : Tree) (X : Searched S) (r : Groups) (g : Grouping S r) where
+module _ (S : Tree) (X : Searched S) (few : S .lines ≤ 2048) (g : List ℕ) (long : length g ≡ 8192) {tie : Tie} (s : Sorted S (columns g) tie) where
   abbrev t : Tables
-  t = tables (r .leader) (r .parity) (r .from) (r .to)
+  t = columns g
 
-  module _ (e : r .tie ≡ Holds) where
+  module _ (e : tie ≡ Holds) where
     kept : Together S t × ((b d k : ℕ) → Link S b d k → Closed t b d k)
-    kept = go (rw e at (g .sorted))
+    kept = go (rw e at s)
       where
         go : Sorted S t Holds → Together S t × ((b d k : ℕ) → Link S b d k → Closed t b d k)
         go (all-kept q a) = (q, a)
@@ -121,34 +84,34 @@ module _ (S : Tree) (X : Searched S) (r : Groups) (g : Grouping S r) where
     from-proper : (c : ℕ → ℕ) → Proper S c → Satisfies (S .lines) (backb S) (Taken S t) c
     from-proper = proper-obeys S X t (kept .0) (kept .1)
 
-    pub sorted-first : (choice choice′ : List ℕ) → Copied (S .lines) (r .parity) choice choice′ → First (S .lines) (Proper S) (at choice′)
+    pub sorted-first : (choice choice′ : List ℕ) → Copied (S .lines) g choice choice′ → First (S .lines) (Proper S) (at choice′)
     sorted-first choice choice′ c =
         first-same (S .lines) (Satisfies (S .lines) (backb S) (Taken S t)) (Proper S) to-proper from-proper (at choice′)
-        (copied-first (S .lines) (backb S) (Taken S t) (r .leader) (r .parity) (r .from) (r .to) (kept .0) choice choice′ c)
+        (copied-first (S .lines) (backb S) (Taken S t) g (kept .0) choice choice′ c)
 
-    pub sorted-reading : (choice : List ℕ) → S .lines ≤ length choice → Reading (S .lines) (r .leader) (r .parity) choice
-    sorted-reading choice h = reading (S .lines) (backb S) (Taken S t) (r .leader) (r .parity) (r .from) (r .to) (kept .0) choice (g .room) h
+    pub sorted-reading : (choice : List ℕ) → S .lines ≤ length choice → Reading (S .lines) g choice
+    sorted-reading choice h = reading (S .lines) (backb S) (Taken S t) g (kept .0) choice few long h
 
-    pub sorted-fits : (choice : List ℕ) → fitsb (S .lines) (at (r .leader)) (at (r .parity)) (at choice) ≡ true → Proper S (at choice)
+    pub sorted-fits : (choice : List ℕ) → fitsb (S .lines) (columns g .leader) (columns g .parity) (at choice) ≡ true → Proper S (at choice)
     sorted-fits choice y = to-proper (at choice) (fits-obeys (S .lines) (backb S) (Taken S t) t (kept .0) (at choice) y)
 
-    pub sorted-fails : (choice : List ℕ) → fitsb (S .lines) (at (r .leader)) (at (r .parity)) (at choice) ≡ false → Proper S (at choice) → ⊥
+    pub sorted-fails : (choice : List ℕ) → fitsb (S .lines) (columns g .leader) (columns g .parity) (at choice) ≡ false → Proper S (at choice) → ⊥
     sorted-fails choice y p = true-false (obeys-fits (S .lines) (backb S) (Taken S t) t (kept .0) (at choice) (from-proper (at choice) p)) y
 
     module _ (choice choice′ : List ℕ) (p : Proper S (at choice)) where
-      pub sorted-next : Advanced (S .lines) (r .leader) (r .parity) choice choice′ → Next (S .lines) (Proper S) (at choice) (at choice′)
+      pub sorted-next : Advanced (S .lines) g choice choice′ → Next (S .lines) (Proper S) (at choice) (at choice′)
       sorted-next a =
           next-same (S .lines) (Satisfies (S .lines) (backb S) (Taken S t)) (Proper S) to-proper from-proper (at choice) (at choice′)
-          (advanced-next (S .lines) (backb S) (Taken S t) (r .leader) (r .parity) (r .from) (r .to) (kept .0) choice choice′ (from-proper (at choice) p) a)
+          (advanced-next (S .lines) (backb S) (Taken S t) g (kept .0) choice choice′ (from-proper (at choice) p) a)
 
-      pub sorted-last : Stuck (S .lines) (r .leader) choice choice′ → Outdone S (at choice) → ⊥
+      pub sorted-last : Stuck (S .lines) g choice choice′ → Outdone S (at choice) → ⊥
       sorted-last k d =
-          stuck-last (S .lines) (backb S) (Taken S t) (r .leader) (r .parity) (r .from) (r .to) (kept .0) choice choice′ (from-proper (at choice) p) k
+          stuck-last (S .lines) (backb S) (Taken S t) g (kept .0) choice choice′ (from-proper (at choice) p) k
           (d .0) (from-proper (d .0) (d .1)) (d .2)
 
-  module _ {b d k : ℕ} (e : r .tie ≡ Tears b d k) where
+  module _ {b d k : ℕ} (e : tie ≡ Tears b d k) where
     torn-by : Together S t × Unkept S t b d k
-    torn-by = go (rw e at (g .sorted))
+    torn-by = go (rw e at s)
       where
         go : Sorted S t (Tears b d k) → Together S t × Unkept S t b d k
         go (one-torn q u) = (q, u)
@@ -159,26 +122,35 @@ module _ (S : Tree) (X : Searched S) (r : Groups) (g : Grouping S r) where
     pub torn-improper : (c : ℕ → ℕ) → Proper S c → ⊥
     torn-improper = none-proper S X t (torn-by .0) b d k (torn-by .1)
 
-    pub torn-showing : (ring kinds : List ℕ) → S .lines ≤ length ring → S .lines ≤ length kinds → Showing (S .lines) b d k (r .parity) (r .from) (r .to) ring kinds
+    pub torn-showing : (ring kinds : List ℕ) → S .lines ≤ length ring → S .lines ≤ length kinds → Showing (S .lines) b d k g ring kinds
     torn-showing ring kinds h h′ =
         let u = torn-by .1 in
-        let ends = link-back S (u .link) in
+        let ends = link-sided S (u .link) in
         record {
-          conflict = torn (S .lines) (backb S) (Taken S t) t t (torn-by .0) b d k (ends .0) (ends .1) (g .room .few) (link-small (u .link)) (link-apart S X (u .link)) (u .together, u .odd, refl);
-          parities = g .room .parities;
-          froms = g .room .froms;
-          tos = g .room .tos;
+          conflict = torn (S .lines) (backb S) (Taken S t) t (torn-by .0) b d k (ends .0) (ends .1) few (link-small (u .link)) (link-apart S X (u .link)) (u .together) (u .odd);
           ring-room = h;
           kind-room = h′;
         }
 
-    pub torn-ring : (n : ℕ) (ring kinds ring′ kinds′ : List ℕ) → Shown (S .lines) (at (r .parity)) (at (r .from)) (at (r .to)) b d k n ring kinds ring′ kinds′
+    pub torn-ring : (n : ℕ) (ring kinds ring′ kinds′ : List ℕ) → Shown (S .lines) t b d k n ring kinds ring′ kinds′
         → Ring (Constraint S) n (at ring′) (at kinds′)
     torn-ring n ring kinds ring′ kinds′ s =
         let u = torn-by .1 in
-        let ends = link-back S (u .link) in
+        let ends = link-sided S (u .link) in
         ring-constraints S X t (torn-by .0) b d k u n (at ring′) (at kinds′)
-        (ring-shown (S .lines) (backb S) (Taken S t) t t (torn-by .0) b d k (ends .0) (ends .1) n ring kinds ring′ kinds′ s)
+        (ring-shown (S .lines) (backb S) (Taken S t) t (torn-by .0) b d k n ring kinds ring′ kinds′ s)
+
+-- What the functions below are asked
+
+module _ (n : ℕ) (ends : List ℕ) (number : ℕ) (g : List ℕ) (tie : Tie) (h : Gathered n ends number g tie) (z : number ≡ 0) where
+  pub gathered-reading : tie ≡ Holds → (choice : List ℕ) → length ends / 2 ≤ length choice → Reading (length ends / 2) g choice
+  gathered-reading e choice bytes =
+      sorted-reading (tree-in (network n ends)) (faultless-searched n ends number (h .fault) z) (faultless-few n ends number (h .fault) z) g (h .long z) (h .sorted z) e choice bytes
+
+  pub gathered-showing : {b d k : ℕ} → tie ≡ Tears b d k → (rl rk : List ℕ) → length ends / 2 ≤ length rl → length ends / 2 ≤ length rk
+      → Showing (length ends / 2) b d k g rl rk
+  gathered-showing e rl rk lines kinds =
+      torn-showing (tree-in (network n ends)) (faultless-searched n ends number (h .fault) z) (faultless-few n ends number (h .fault) z) g (h .long z) (h .sorted z) e rl rk lines kinds
 
 -- First choice
 
@@ -217,39 +189,37 @@ module _ (n : ℕ) (ends choice rl rk : List ℕ) (two : Bool) (is-two : two ≡
     unfolding cramped-first
     first-few-kinds h = first-3 (either-second _ _ (either-second _ _ (either-second _ _ (lt-ltb _ _ h))))
 
-    module _ (not-three : three ≡ false) (bytes : m ≤ length choice) (lines : m ≤ length rl) (kinds : m ≤ length rk) (q : Search) (x : Explored n ends q) where
+    module _ (not-three : three ≡ false) (bytes : m ≤ length choice) (lines : m ≤ length rl) (kinds : m ≤ length rk) (number : ℕ) (g : List ℕ) (tie : Tie) (h : Gathered n ends number g tie) where
       enough : either (odd (length ends)) (cramped-first ends choice rl rk) ≡ false
       unfolding cramped-first
       enough = either-no (sym is-three ∙ not-three) (either-no (le-ltb _ _ bytes) (either-no (le-ltb _ _ lines) (le-ltb _ _ kinds)))
 
-      pub first-refused : (q .number ≡ 0 → ⊥) → (a : Answer) → a ≡ refused (q .number) → FirstChoice n ends choice rl rk a choice rl rk
+      pub first-refused : (number ≡ 0 → ⊥) → (a : Answer) → a ≡ refused number → FirstChoice n ends choice rl rk a choice rl rk
       first-refused d a e =
-          refuse-rest n ends (cramped-first ends choice rl rk) (Nothing a choice rl rk) (Granted a choice rl rk) enough x
-          (λ k some (u : q ≡ unsearched k). untouched (e ∙ ap refused (ap (λ (y : Search). y .number) u)))
-          (λ (g : q ≡ searched-of (network n ends)). absurd (d (ap (λ (y : Search). y .number) g)))
+          refuse-rest n ends (cramped-first ends choice rl rk) (Nothing a choice rl rk) (Granted a choice rl rk) enough (h .fault)
+          (λ k some (u : number ≡ k). untouched (e ∙ ap refused u))
+          (λ (u : number ≡ 0). absurd (d u))
 
-      module _ (z : q .number ≡ 0) (r : Groups) (g′ : Grouping (tree-of n m ends (q .kinds) (q .heights) (q .parents)) r) where
+      module _ (z : number ≡ 0) where
         X : Searched (tree-in net)
-        X = let f = explored n ends q x z in searched n m ends _ _ _ (grown net (f .0) (f .1))
+        X = faultless-searched n ends number (h .fault) z
 
-        g : Grouping (tree-in net) r
-        g = subst (λ (S : Tree). Grouping S r) (explored-tree n ends q x z) g′
+        few : m ≤ 2048
+        few = faultless-few n ends number (h .fault) z
 
         grant : (a : Answer) (c l k : List ℕ) → Granted a c l k → FirstChoice n ends choice rl rk a c l k
         grant a c l k y =
-            refuse-rest n ends (cramped-first ends choice rl rk) (Nothing a c l k) (Granted a c l k) enough x
-            (λ j some (u : q ≡ unsearched j). absurd (let w : q .number ≡ j = ap (λ (v : Search). v .number) u in omega arith))
-            (λ _. y)
+            refuse-rest n ends (cramped-first ends choice rl rk) (Nothing a c l k) (Granted a c l k) enough (h .fault) (λ j some (u : number ≡ j). absurd (omega arith)) (λ _. y)
 
-        pub first-chosen : r .tie ≡ Holds → (a : Answer) (choice′ : List ℕ) → a ≡ done (m + 1 - n) 0 → Copied m (r .parity) choice choice′ → length choice′ ≡ length choice
+        pub first-chosen : tie ≡ Holds → (a : Answer) (choice′ : List ℕ) → a ≡ done (m + 1 - n) 0 → Copied m g choice choice′ → length choice′ ≡ length choice
             → FirstChoice n ends choice rl rk a choice′ rl rk
         first-chosen e a choice′ is c long =
-            let f = sorted-first (tree-in net) X r g e choice choice′ c in
+            let f = sorted-first (tree-in net) X few g (h .long z) (h .sorted z) e choice choice′ c in
             grant a choice′ rl rk
             (inl (
               (at choice′, f .good .aligned .legal),
               record {
-                answers = is ∙ explored-done n ends q x z;
+                answers = is ∙ faultless-done n ends number (h .fault) z;
                 first = f;
                 rest = past-kept long (c .rest);
                 same-lines = refl;
@@ -257,21 +227,18 @@ module _ (n : ℕ) (ends choice rl rk : List ℕ) (two : Bool) (is-two : two ≡
               },
             ))
 
-        pub first-showing : {b d k : ℕ} → r .tie ≡ Tears b d k → Showing m b d k (r .parity) (r .from) (r .to) rl rk
-        first-showing e = torn-showing (tree-in net) X r g e rl rk lines kinds
-
-        pub first-ringed : {b d k : ℕ} → r .tie ≡ Tears b d k → (a : Answer) (size : ℕ) (rl′ rk′ : List ℕ) → a ≡ record { number = 7; count = 0; second = size }
-            → Shown m (at (r .parity)) (at (r .from)) (at (r .to)) b d k size rl rk rl′ rk′ → length rl′ ≡ length rl → length rk′ ≡ length rk
+        pub first-ringed : {b d k : ℕ} → tie ≡ Tears b d k → (a : Answer) (size : ℕ) (rl′ rk′ : List ℕ) → a ≡ record { number = 7; count = 0; second = size }
+            → Shown m (columns g) b d k size rl rk rl′ rk′ → length rl′ ≡ length rl → length rk′ ≡ length rk
             → FirstChoice n ends choice rl rk a choice rl′ rk′
         first-ringed e a size rl′ rk′ is s l l′ =
             grant a choice rl′ rk′
             (inr (
-              torn-none (tree-in net) X r g e,
+              torn-none (tree-in net) X few g (h .long z) (h .sorted z) e,
               record {
                 size = size;
                 answers = is;
                 few = s .few;
-                ring = torn-ring (tree-in net) X r g e size rl rk rl′ rk′ s;
+                ring = torn-ring (tree-in net) X few g (h .long z) (h .sorted z) e size rl rk rl′ rk′ s;
                 lines-rest = past-kept l (s .ring-rest);
                 kinds-rest = past-kept l′ (s .kinds-rest);
                 same-choice = refl;

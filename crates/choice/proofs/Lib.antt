@@ -1,5 +1,5 @@
 pub mod Proper
-pub mod Deciding
+pub mod Faultless
 pub mod Answering
 pub mod Stepping
 pub mod RingLength

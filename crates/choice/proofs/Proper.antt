@@ -10,7 +10,7 @@ use Rattle.laws.proofs.Counting.{count-some}
 use Rattle.laws.proofs.Tests.{both-of}
 use Rattle.tree.specs.Tree.{Tree}
 use Rattle.tree.specs.Returns.{backb}
-use Rattle.tree.proofs.Searched.{Searched}
+use Rattle.tree.specs.Searched.{Searched}
 use Rattle.fork.specs.Fork.{Aligned, Constraint}
 use Rattle.fork.specs.Link.{Link, turned}
 use Rattle.fork.proofs.Rule.{back-yes, back-of}
@@ -22,8 +22,8 @@ use Rattle.groups.specs.Groups.{Tables}
 use Rattle.groups.proofs.Groups.{conflict}
 use Rattle.rings.specs.Ring.{Ring, oddb, ringb}
 use Rattle.choice.specs.Choice.{Drawable, Proper}
-use Rattle.ties.specs.Inside.{Closed, Taken, Together, Unkept}
-use Rattle.ties.proofs.Tying.{link-back}
+use Rattle.links.specs.Inside.{Closed, Taken, Together, Unkept}
+use Rattle.links.proofs.Tying.{link-sided}
 
 -- a ring has a "different"
 odd-of : (n : ℕ) (line kind : ℕ → ℕ) → ringb n line kind ≡ true → (j : ℕ) × (j < n) × (kind j ≡ 0 → ⊥)
@@ -60,7 +60,7 @@ module _ (S : Tree) (X : Searched S) (t : Tables) (g : Together S t) where
   module _ (b d k : ℕ) (r : Unkept S t b d k) where
     none-aligned : (side : ℕ → ℕ) → Aligned S side → ⊥
     none-aligned side a =
-        let e = link-back S (r .link) in
+        let e = link-sided S (r .link) in
         conflict (S .lines) (backb S) (Taken S t) t g b d k (e .0) (e .1) (r .together) (r .odd) side
         (λ x y z m. cases m (λ p. aligned-links S side a x y z (p .0)) (λ q. rw (q .0, q .1, q .2) (aligned-links S side a b d k (r .link))))
 

@@ -15,22 +15,17 @@ use Rattle.network.specs.Network.{Network, network}
 use Rattle.network.specs.Numbers.{refused, done, oversize, odd, Untouched}
 use Rattle.network.specs.declared.Answer.{Answer}
 use Rattle.network.proofs.Sifting.{refuse-2, refuse-3, refuse-rest, untouched}
-use Rattle.tree.specs.Tree.{Tree, tree-of}
-use Rattle.tree.proofs.Searched.{Searched}
-use Rattle.tree.proofs.Grown.{searched}
+use Rattle.tree.specs.Searched.{Searched}
 use Rattle.search.specs.Machine.{tree-in}
-use Rattle.search.specs.Orient.{Explored, unsearched, searched as searched-of}
-use Rattle.search.specs.declared.Search.{Search}
-use Rattle.search.proofs.Grows.{grown}
-use Rattle.search.proofs.Calls.{explored}
-use Rattle.groups.specs.Groups.{fitsb}
-use Rattle.groups.specs.Calls.{Reading, stepped}
+use Rattle.groups.specs.Groups.{columns, fitsb}
+use Rattle.groups.specs.Calls.{stepped}
 use Rattle.choice.specs.Choice.{Proper, Outdone}
 use Rattle.choice.specs.Calls.{cramped-next, Stepped, NextChoice}
-use Rattle.grouping.specs.Inside.{Grouping}
-use Rattle.grouping.specs.declared.Groups.{Groups}
-use Rattle.ties.specs.declared.Tie.the-variants.{Holds, Tears}
-use Rattle.choice.proofs.Answering.{past-kept, explored-tree, explored-done, sorted-reading, sorted-fits, sorted-fails, sorted-next, sorted-last, torn-improper}
+use Rattle.choice.specs.Inside.{Gathered}
+use Rattle.links.specs.declared.Tie.{Tie}
+use Rattle.links.specs.declared.Tie.the-variants.{Holds, Tears}
+use Rattle.choice.proofs.Faultless.{faultless-searched, faultless-few, faultless-done}
+use Rattle.choice.proofs.Answering.{past-kept, sorted-fits, sorted-fails, sorted-next, sorted-last, torn-improper}
 
 module _ (n : ℕ) (ends choice : List ℕ) (two : Bool) (is-two : two ≡ oversize n (length ends)) where
   abbrev m : ℕ
@@ -57,66 +52,61 @@ module _ (n : ℕ) (ends choice : List ℕ) (two : Bool) (is-two : two ≡ overs
     unfolding cramped-next
     next-few-bytes h = next-3 (either-second _ _ (lt-ltb _ _ h))
 
-    module _ (not-three : three ≡ false) (bytes : m ≤ length choice) (q : Search) (x : Explored n ends q) where
+    module _ (not-three : three ≡ false) (bytes : m ≤ length choice) (number : ℕ) (g : List ℕ) (tie : Tie) (h : Gathered n ends number g tie) where
       enough : either (odd (length ends)) (cramped-next ends choice) ≡ false
       unfolding cramped-next
       enough = either-no (sym is-three ∙ not-three) (le-ltb _ _ bytes)
 
-      pub next-refused : (q .number ≡ 0 → ⊥) → (a : Answer) → a ≡ refused (q .number) → NextChoice n ends choice a choice
+      pub next-refused : (number ≡ 0 → ⊥) → (a : Answer) → a ≡ refused number → NextChoice n ends choice a choice
       next-refused d a e =
-          refuse-rest n ends (cramped-next ends choice) (Untouched choice a choice) (Granted a choice) enough x
-          (λ k some (u : q ≡ unsearched k). untouched (e ∙ ap refused (ap (λ (y : Search). y .number) u)))
-          (λ (g : q ≡ searched-of (network n ends)). absurd (d (ap (λ (y : Search). y .number) g)))
+          refuse-rest n ends (cramped-next ends choice) (Untouched choice a choice) (Granted a choice) enough (h .fault)
+          (λ k some (u : number ≡ k). untouched (e ∙ ap refused u))
+          (λ (u : number ≡ 0). absurd (d u))
 
-      module _ (z : q .number ≡ 0) (r : Groups) (g′ : Grouping (tree-of n m ends (q .kinds) (q .heights) (q .parents)) r) where
+      module _ (z : number ≡ 0) where
         X : Searched (tree-in net)
-        X = let f = explored n ends q x z in searched n m ends _ _ _ (grown net (f .0) (f .1))
+        X = faultless-searched n ends number (h .fault) z
 
-        g : Grouping (tree-in net) r
-        g = subst (λ (S : Tree). Grouping S r) (explored-tree n ends q x z) g′
+        few : m ≤ 2048
+        few = faultless-few n ends number (h .fault) z
 
         grant : (a : Answer) (c : List ℕ) → Granted a c → NextChoice n ends choice a c
         grant a c y =
-            refuse-rest n ends (cramped-next ends choice) (Untouched choice a c) (Granted a c) enough x
-            (λ j some (u : q ≡ unsearched j). absurd (let w : q .number ≡ j = ap (λ (v : Search). v .number) u in omega arith))
-            (λ _. y)
+            refuse-rest n ends (cramped-next ends choice) (Untouched choice a c) (Granted a c) enough (h .fault) (λ j some (u : number ≡ j). absurd (omega arith)) (λ _. y)
 
-        pub next-torn : {b d k : ℕ} → r .tie ≡ Tears b d k → (a : Answer) → a ≡ refused 8 → NextChoice n ends choice a choice
-        next-torn e a is = grant a choice (inr (torn-improper (tree-in net) X r g e (at choice), untouched is))
+        pub next-torn : {b d k : ℕ} → tie ≡ Tears b d k → (a : Answer) → a ≡ refused 8 → NextChoice n ends choice a choice
+        next-torn e a is = grant a choice (inr (torn-improper (tree-in net) X few g (h .long z) (h .sorted z) e (at choice), untouched is))
 
-        module _ (e : r .tie ≡ Holds) where
-          pub next-reading : Reading m (r .leader) (r .parity) choice
-          next-reading = sorted-reading (tree-in net) X r g e choice bytes
-
-          module _ (fit : Bool) (is-fit : fit ≡ fitsb m (at (r .leader)) (at (r .parity)) (at choice)) where
+        module _ (e : tie ≡ Holds) where
+          module _ (fit : Bool) (is-fit : fit ≡ fitsb m (columns g .leader) (columns g .parity) (at choice)) where
             pub next-unfit : fit ≡ false → (a : Answer) → a ≡ refused 8 → NextChoice n ends choice a choice
-            next-unfit f a is = grant a choice (inr (sorted-fails (tree-in net) X r g e choice (sym is-fit ∙ f), untouched is))
+            next-unfit f a is = grant a choice (inr (sorted-fails (tree-in net) X few g (h .long z) (h .sorted z) e choice (sym is-fit ∙ f), untouched is))
 
-            module _ (yes′ : fit ≡ true) (choice′ : List ℕ) (moved : Bool) (step : stepped m (r .leader) (r .parity) choice choice′ moved) where
+            module _ (yes′ : fit ≡ true) (choice′ : List ℕ) (moved : Bool) (step : stepped m g choice choice′ moved) where
               proper : Proper (tree-in net) (at choice)
-              proper = sorted-fits (tree-in net) X r g e choice (sym is-fit ∙ yes′)
+              proper = sorted-fits (tree-in net) X few g (h .long z) (h .sorted z) e choice (sym is-fit ∙ yes′)
 
               pub next-last : moved ≡ false → (a : Answer) → a ≡ refused 9 → NextChoice n ends choice a choice′
               next-last f a is = go (rw f at step)
                 where
-                  go : stepped m (r .leader) (r .parity) choice choice′ false → NextChoice n ends choice a choice′
+                  go : stepped m g choice choice′ false → NextChoice n ends choice a choice′
                   go s =
                       grant a choice′
-                      (inl (proper, inr (sorted-last (tree-in net) X r g e choice choice′ proper s, record { answers = is; same = s .same })))
+                      (inl (proper, inr (sorted-last (tree-in net) X few g (h .long z) (h .sorted z) e choice choice′ proper s, record { answers = is; same = s .same })))
 
               pub next-done : moved ≡ true → (a : Answer) → a ≡ done (m + 1 - n) 0 → length choice′ ≡ length choice → NextChoice n ends choice a choice′
               next-done f a is long = go (rw f at step)
                 where
-                  go : stepped m (r .leader) (r .parity) choice choice′ true → NextChoice n ends choice a choice′
+                  go : stepped m g choice choice′ true → NextChoice n ends choice a choice′
                   go s =
-                      let later = sorted-next (tree-in net) X r g e choice choice′ proper s in
+                      let later = sorted-next (tree-in net) X few g (h .long z) (h .sorted z) e choice choice′ proper s in
                       grant a choice′
                       (inl (
                         proper,
                         inl (
                           (at choice′, later .good, later .after),
                           record {
-                            answers = is ∙ explored-done n ends q x z;
+                            answers = is ∙ faultless-done n ends number (h .fault) z;
                             next = later;
                             rest = past-kept long (s .turned .rest);
                           },

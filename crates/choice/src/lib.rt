@@ -1,18 +1,17 @@
 // Left and right: the first aligned choice of a network, and the next one after a given one.
 //
-// `first` and `next` are the calls; their contracts cite specs/Calls.antt. `is_aligned` is the question that draw asks too.
-ghost use Prim.Native.Nat.{ℕ, _≤_};
-ghost use lib.ListN.{length};
-ghost use Rattle.laws.specs.Lists.{at};
-ghost use Rattle.tree.specs.Tree.{«tree-of»};
-ghost use Rattle.fork.specs.Inside.{Known};
-ghost use Rattle.grouping.specs.Inside.{TabledIn, Grouping};
-ghost use Rattle.choice.specs.Choice.{Proper};
+// `first` and `next` are the calls; their contracts cite specs/Calls.antt. `beginning` is what they, and draw, begin with.
+pub mod beginning;
+
+ghost use Prim.Native.Nat.{ℕ};
+ghost use Rattle.groups.specs.Calls.{Pointing};
 ghost use Rattle.choice.specs.Calls.{FirstChoice, NextChoice};
-ghost use Rattle.choice.specs.Inside.{Decides};
-use grouping::Groups;
+ghost use Rattle.choice.specs.Inside.{Gathered};
+use crate::beginning::Beginning;
+use crate::beginning::begin;
+use links::Tie;
 use network::Answer;
-use ties::Tie;
+use network::Kind;
 
 // Writes the first aligned choice, and answers how many back lines there are. Where no choice obeys the fork rule it answers 7 with the length of a
 // ring of constraints that shows why, and writes the ring.
@@ -42,36 +41,20 @@ pub fn first(
     if ring_kinds.len() < lines {
         return Answer::refused(3);
     }
-    let found = search::explore(vertices, ends);
-    let number = found.number;
+    let mut groups = [0u16; 8192];
+    let start = gather(vertices, ends, &mut groups);
+    let number = start.number;
     if number != 0 {
         return Answer::refused(number);
     }
-    let kinds = found.kinds;
-    let heights = found.heights;
-    let parents = found.parents;
-    let tied = sorted(vertices, lines, ends, &kinds, &heights, &parents);
-    let tie = tied.tie;
-    let parity = tied.parity;
-    let from = tied.from;
-    let to = tied.to;
+    let tie = start.tie;
     match tie {
         Tie::Holds => {
-            groups::choice::first(lines, &parity, choice);
+            groups::choice::first(lines, &groups, choice);
             Answer::done(lines + 1 - vertices, 0)
         }
         Tie::Tears(b, d, kind) => {
-            let size = rings::show(
-                lines,
-                &parity,
-                &from,
-                &to,
-                b,
-                d,
-                kind,
-                ring_lines,
-                ring_kinds,
-            );
+            let size = rings::show(lines, &groups, b, d, kind, ring_lines, ring_kinds);
             Answer {
                 number: 7,
                 count: 0,
@@ -95,108 +78,41 @@ pub fn next(vertices: usize, ends: &[u16], choice: &mut [u8]) -> Answer
     if choice.len() < lines {
         return Answer::refused(3);
     }
-    let found = search::explore(vertices, ends);
-    let number = found.number;
+    let mut groups = [0u16; 8192];
+    let start = gather(vertices, ends, &mut groups);
+    let number = start.number;
     if number != 0 {
         return Answer::refused(number);
     }
-    let kinds = found.kinds;
-    let heights = found.heights;
-    let parents = found.parents;
-    let tied = sorted(vertices, lines, ends, &kinds, &heights, &parents);
-    let tie = tied.tie;
-    let leader = tied.leader;
-    let parity = tied.parity;
+    let tie = start.tie;
     if let Tie::Tears(_, _, _) = tie {
         return Answer::refused(8);
     }
-    if !groups::choice::fits(lines, &leader, &parity, choice) {
+    if !groups::choice::fits(lines, &groups, choice) {
         return Answer::refused(8);
     }
-    if !groups::choice::next(lines, &leader, &parity, choice) {
+    if !groups::choice::next(lines, &groups, choice) {
         return Answer::refused(9);
     }
     Answer::done(lines + 1 - vertices, 0)
 }
 
-// The groups of the back lines, from the tables of a finished search.
-fn sorted(
-    vertices: usize,
-    lines: usize,
-    ends: &[u16],
-    kinds: &[u8; 2048],
-    heights: &[u16; 512],
-    parents: &[u16; 512],
-) -> Groups
-    requires { ⌜ Known vertices lines (now ends) (now kinds) (now heights) (now parents) ⌝ }
-    ensures { λ r. ⌜ Grouping (tree-of vertices lines (now (ends .entry)) (now (kinds .entry)) (now (heights .entry)) (now (parents .entry))) r ⌝ }
+// Groups the back lines, and keeps the other tables to itself.
+fn gather(vertices: usize, ends: &[u16], groups: &mut [u16; 8192]) -> Beginning
+    requires { ⌜ Pointing (now groups) ⌝ }
+    ensures { λ r. ⌜ Gathered vertices (now (ends .entry)) (r .number) (now (groups .exit)) (r .tie) ⌝ }
 {
-    let returns = returns::forked(vertices, lines, ends, kinds, heights, parents);
-    let sources = returns.sources;
-    let stops = returns.ends;
-    let lows = returns.lows;
-    let highs = returns.highs;
-    let rivals = returns.rivals;
-    let tops = returns.tops;
-    let bottoms = returns.bottoms;
-    grouping::grouped(
+    let mut kinds = [Kind::UNUSED; 2048];
+    let mut heights = [0u16; 512];
+    let mut parents = [0u16; 512];
+    let mut forks = [0u16; 10240];
+    begin(
         vertices,
-        lines,
         ends,
-        kinds,
-        heights,
-        parents,
-        &sources,
-        &stops,
-        &lows,
-        &highs,
-        &rivals,
-        &tops,
-        &bottoms,
+        &mut kinds,
+        &mut heights,
+        &mut parents,
+        &mut forks,
+        groups,
     )
-}
-
-// Whether a lent choice is aligned, and written as it should be, given what each line's returns are like.
-pub fn is_aligned(
-    vertices: usize,
-    lines: usize,
-    ends: &[u16],
-    kinds: &[u8; 2048],
-    heights: &[u16; 512],
-    parents: &[u16; 512],
-    sources: &[u16; 2048],
-    stops: &[u16; 2048],
-    lows: &[u16; 2048],
-    highs: &[u16; 2048],
-    rivals: &[u16; 2048],
-    tops: &[u16; 2048],
-    bottoms: &[u16; 2048],
-    choice: &[u8],
-) -> bool
-    requires { ⌜ Known vertices lines (now ends) (now kinds) (now heights) (now parents) × (lines ≤ length (now choice)) ⌝ }
-    requires { ⌜ TabledIn (tree-of vertices lines (now ends) (now kinds) (now heights) (now parents)) (now sources) (now stops) (now lows) (now highs) (now rivals) (now tops) (now bottoms) ⌝ }
-    ensures { λ r. ⌜ Decides (Proper (tree-of vertices lines (now (ends .entry)) (now (kinds .entry)) (now (heights .entry)) (now (parents .entry))) (at (now (choice .entry)))) r ⌝ }
-{
-    let found = grouping::grouped(
-        vertices,
-        lines,
-        ends,
-        kinds,
-        heights,
-        parents,
-        sources,
-        stops,
-        lows,
-        highs,
-        rivals,
-        tops,
-        bottoms,
-    );
-    let tie = found.tie;
-    let leader = found.leader;
-    let parity = found.parity;
-    match tie {
-        Tie::Holds => groups::choice::fits(lines, &leader, &parity, choice),
-        Tie::Tears(_, _, _) => false,
-    }
 }

@@ -1,7 +1,9 @@
 -- One lemma for each place where `first` returns.
-use native.Mathlib.Omega.{arith}
-use Rattle.choice.proofs.Answering.{explored-known, explored-fits, first-2, first-odd, first-few-bytes, first-few-lines, first-few-kinds, first-refused, first-chosen, first-showing, first-ringed}
 use mathlib.Core.Path.{refl}
+use native.Mathlib.Omega.{arith}
+use Rattle.groups.proofs.Answers.{fresh-pointing}
+use Rattle.choice.proofs.Faultless.{faultless-fits}
+use Rattle.choice.proofs.Answering.{first-2, first-odd, first-few-bytes, first-few-lines, first-few-kinds, gathered-reading, gathered-showing, first-refused, first-chosen, first-ringed}
 use borrow.Author.Needs.{needs}
 use Rattle.choice.proofs.first.Statement.{statement}
 use Rattle.choice.proofs.first.Tie as tie
@@ -42,32 +44,26 @@ refused-requires-5 c κs = search needs
 returns-5 : tie.Need-returns-5
 returns-5 c = first-few-kinds _ _ _ _ _ _ (c .before .before .before .before .before .before .before .is-oversize .ensures) (c .before .before .before .before .before .before .if1 .left) _ (c .before .before .before .before .before .is-odd .ensures) (c .before .if5 .taken) _ (c .refused5 .ensures)
 
-explore-requires : tie.Need-explore-requires
-explore-requires c κs = search needs
+gather-requires : tie.Need-gather-requires
+gather-requires c κs = fresh-pointing
 
 refused-requires-6 : tie.Need-refused-requires-6
 refused-requires-6 c κs = search needs
 
 returns-6 : tie.Need-returns-6
-returns-6 c = first-refused _ _ _ _ _ _ (c .before .before .before .before .before .before .before .before .before .is-oversize .ensures) (c .before .before .before .before .before .before .before .before .if1 .left) _ (c .before .before .before .before .before .before .before .is-odd .ensures) (c .before .before .before .before .before .before .if2 .left) (c .before .before .before .before .before .if3 .left) (c .before .before .before .before .if4 .left) (c .before .before .before .if5 .left) _ (c .before .before .explore .ensures) (c .before .if6 .taken) _ (c .refused6 .ensures)
-
-sorted-requires : tie.Need-sorted-requires
-sorted-requires c κs = explored-known _ _ _ (c .before .before .before .before .before .before .before .explore .ensures) (c .before .before .before .before .before .before .if6 .left)
+returns-6 c = let g = c .before .before in first-refused _ _ _ _ _ _ (g .before .before .before .before .before .before .before .before .is-oversize .ensures) (g .before .before .before .before .before .before .before .if1 .left) _ (g .before .before .before .before .before .before .is-odd .ensures) (g .before .before .before .before .before .if2 .left) (g .before .before .before .before .if3 .left) (g .before .before .before .if4 .left) (g .before .before .if5 .left) _ _ _ (g .gather .ensures) (c .before .if6 .taken) _ (c .refused6 .ensures)
 
 enum-told : tie.Need-enum-told
 enum-told c = search needs
 
-slice-aggregate-first : tie.Need-slice-aggregate-first
-slice-aggregate-first c = search needs
-
 first-requires : tie.Need-first-requires
-first-requires c κs = (c .before .before .before .before .before .before .before .sorted .ensures .room .parities, c .before .before .before .before .before .before .before .before .before .before .before .before .before .before .before .before .before .before .if3 .left)
+first-requires c κs = let g = c .before .before .before .before .before in gathered-reading _ _ _ _ _ (g .gather .ensures) (c .before .before .before .before .if6 .left) (c .before .before .enum-told .given .1) _ (g .before .before .before .before .if3 .left)
 
 add-done : tie.Need-add-done
 add-done c = search needs
 
 sub-done : tie.Need-sub-done
-sub-done c = explored-fits _ _ _ (c .before .before .before .before .before .before .before .before .before .before .before .before .before .before .before .before .before .before .explore .ensures) (c .before .before .before .before .before .before .before .before .before .before .before .before .before .before .before .before .before .if6 .left)
+sub-done c = let g = c .before .before .before .before .before .before .before .before in faultless-fits _ _ _ (g .gather .ensures .fault) (c .before .before .before .before .before .before .before .if6 .left)
 
 done-requires : tie.Need-done-requires
 done-requires c κs = search needs
@@ -75,23 +71,14 @@ done-requires c κs = search needs
 enum-known-tie : tie.Need-enum-known-tie
 enum-known-tie c = search needs
 
-slice-aggregate-show : tie.Need-slice-aggregate-show
-slice-aggregate-show c = search needs
-
-slice-aggregate-show-2 : tie.Need-slice-aggregate-show-2
-slice-aggregate-show-2 c = search needs
-
-slice-aggregate-show-3 : tie.Need-slice-aggregate-show-3
-slice-aggregate-show-3 c = search needs
-
 show-requires : tie.Need-show-requires
-show-requires c κs = first-showing _ _ (c .before .before .before .before .before .before .before .before .before .before .before .before .before .before .before .before .before .before .before .before .before .before .before .before .before .before .before .before .before .before .before .args .choice .now) _ _ _ (c .before .before .before .before .before .before .before .before .before .before .before .before .before .before .before .before .before .before .before .before .before .before .before .before .before .before .is-oversize .ensures) (c .before .before .before .before .before .before .before .before .before .before .before .before .before .before .before .before .before .before .before .before .before .before .before .before .before .if1 .left) _ (c .before .before .before .before .before .before .before .before .before .before .before .before .before .before .before .before .before .before .before .before .before .before .before .before .is-odd .ensures) (c .before .before .before .before .before .before .before .before .before .before .before .before .before .before .before .before .before .before .before .before .before .before .before .if2 .left) (c .before .before .before .before .before .before .before .before .before .before .before .before .before .before .before .before .before .before .before .before .before .before .if3 .left) (c .before .before .before .before .before .before .before .before .before .before .before .before .before .before .before .before .before .before .before .before .before .if4 .left) (c .before .before .before .before .before .before .before .before .before .before .before .before .before .before .before .before .before .before .before .before .if5 .left) _ (c .before .before .before .before .before .before .before .before .before .before .before .before .before .before .before .before .before .before .before .explore .ensures) (c .before .before .before .before .before .before .before .before .before .before .before .before .before .before .before .before .before .before .if6 .left) _ (c .before .before .before .before .before .before .before .before .before .before .before .sorted .ensures) (c .before .before .before .before .before .before .tie .given .1)
+show-requires c κs = let g = c .before .before .before .before .before .before .before in gathered-showing _ _ _ _ _ (g .gather .ensures) (c .before .before .before .before .before .before .if6 .left) (c .before .before .before .before .tie .given .1) _ _ (g .before .before .before .if4 .left) (g .before .before .if5 .left)
 
 same-length : tie.Need-same-length
 same-length c = search needs
 
 returns-7 : tie.Need-returns-7
-returns-7 c = first-chosen _ _ _ _ _ _ (c .before .before .before .before .before .before .before .before .before .before .before .before .before .before .before .before .before .before .before .before .before .before .before .before .before .before .is-oversize .ensures) (c .before .before .before .before .before .before .before .before .before .before .before .before .before .before .before .before .before .before .before .before .before .before .before .before .before .if1 .left) _ (c .before .before .before .before .before .before .before .before .before .before .before .before .before .before .before .before .before .before .before .before .before .before .before .before .is-odd .ensures) (c .before .before .before .before .before .before .before .before .before .before .before .before .before .before .before .before .before .before .before .before .before .before .before .if2 .left) (c .before .before .before .before .before .before .before .before .before .before .before .before .before .before .before .before .before .before .before .before .before .before .if3 .left) (c .before .before .before .before .before .before .before .before .before .before .before .before .before .before .before .before .before .before .before .before .before .if4 .left) (c .before .before .before .before .before .before .before .before .before .before .before .before .before .before .before .before .before .before .before .before .if5 .left) _ (c .before .before .before .before .before .before .before .before .before .before .before .before .before .before .before .before .before .before .before .explore .ensures) (c .before .before .before .before .before .before .before .before .before .before .before .before .before .before .before .before .before .before .if6 .left) _ (c .before .before .before .before .before .before .before .before .before .before .before .sorted .ensures) (c .before .before .before .before .before .before .enum-told .given .1) _ _ (c .done .ensures) (c .before .before .before .first .ensures) (omega arith)
+returns-7 c = let g = c .before .before .before .before .before .before .before .before .before in first-chosen _ _ _ _ _ _ (g .before .before .before .before .before .before .before .before .is-oversize .ensures) (g .before .before .before .before .before .before .before .if1 .left) _ (g .before .before .before .before .before .before .is-odd .ensures) (g .before .before .before .before .before .if2 .left) (g .before .before .before .before .if3 .left) (g .before .before .before .if4 .left) (g .before .before .if5 .left) _ _ _ (g .gather .ensures) (c .before .before .before .before .before .before .before .before .if6 .left) (c .before .before .before .before .before .before .enum-told .given .1) _ _ (c .done .ensures) (c .before .before .before .first .ensures) (omega arith)
 
 same-length-2 : tie.Need-same-length-2
 same-length-2 c = search needs
@@ -100,7 +87,7 @@ same-length-3 : tie.Need-same-length-3
 same-length-3 c = search needs
 
 returns-8 : tie.Need-returns-8
-returns-8 c = first-ringed _ _ _ _ _ _ (c .before .before .before .before .before .before .before .before .before .before .before .before .before .before .before .before .before .before .before .before .before .before .before .before .before .before .before .before .before .before .before .is-oversize .ensures) (c .before .before .before .before .before .before .before .before .before .before .before .before .before .before .before .before .before .before .before .before .before .before .before .before .before .before .before .before .before .before .if1 .left) _ (c .before .before .before .before .before .before .before .before .before .before .before .before .before .before .before .before .before .before .before .before .before .before .before .before .before .before .before .before .before .is-odd .ensures) (c .before .before .before .before .before .before .before .before .before .before .before .before .before .before .before .before .before .before .before .before .before .before .before .before .before .before .before .before .if2 .left) (c .before .before .before .before .before .before .before .before .before .before .before .before .before .before .before .before .before .before .before .before .before .before .before .before .before .before .before .if3 .left) (c .before .before .before .before .before .before .before .before .before .before .before .before .before .before .before .before .before .before .before .before .before .before .before .before .before .before .if4 .left) (c .before .before .before .before .before .before .before .before .before .before .before .before .before .before .before .before .before .before .before .before .before .before .before .before .before .if5 .left) _ (c .before .before .before .before .before .before .before .before .before .before .before .before .before .before .before .before .before .before .before .before .before .before .before .before .explore .ensures) (c .before .before .before .before .before .before .before .before .before .before .before .before .before .before .before .before .before .before .before .before .before .before .before .if6 .left) _ (c .before .before .before .before .before .before .before .before .before .before .before .before .before .before .before .before .sorted .ensures) (c .before .before .before .before .before .before .before .before .before .before .before .tie .given .1) _ _ _ _ refl (c .before .before .before .before .show .ensures) (omega arith) (omega arith)
+returns-8 c = let g = c .before .before .before .before .before .before .before .before .before .before .before .before in first-ringed _ _ _ _ _ _ (g .before .before .before .before .before .before .before .before .is-oversize .ensures) (g .before .before .before .before .before .before .before .if1 .left) _ (g .before .before .before .before .before .before .is-odd .ensures) (g .before .before .before .before .before .if2 .left) (g .before .before .before .before .if3 .left) (g .before .before .before .if4 .left) (g .before .before .if5 .left) _ _ _ (g .gather .ensures) (c .before .before .before .before .before .before .before .before .before .before .before .if6 .left) (c .before .before .before .before .before .before .before .before .before .tie .given .1) _ _ _ _ refl (c .before .before .before .before .show .ensures) (omega arith) (omega arith)
 
 pub first-spec : {M : Type 1} → statement M
 first-spec =
@@ -118,20 +105,15 @@ first-spec =
     returns-4
     refused-requires-5
     returns-5
-    explore-requires
+    gather-requires
     refused-requires-6
     returns-6
-    sorted-requires
     enum-told
-    slice-aggregate-first
     first-requires
     add-done
     sub-done
     done-requires
     enum-known-tie
-    slice-aggregate-show
-    slice-aggregate-show-2
-    slice-aggregate-show-3
     show-requires
     same-length
     returns-7
