@@ -18,11 +18,11 @@ use Rattle.laws.proofs.Occurring.{many-append, many-reverse, many-keep-yes}
 use Rattle.laws.proofs.Gathering.{none-of, halves, all-gather, many-gather-none, many-gather-one}
 use Rattle.tree.specs.Tree.{Tree}
 use Rattle.tree.specs.Words.{Line, TreeLine, BackLine, Above, Leaves}
-use Rattle.tree.proofs.Searched.{Searched}
+use Rattle.tree.specs.Searched.{Searched}
 use Rattle.fans.specs.Fan.{is-left, is-right}
 use Rattle.clockwise.specs.Order.{discovered, incoming, beside, clockwise}
-use Rattle.clockwise.specs.Walks.{Fanned}
-use Rattle.clockwise.proofs.Discovered.{Over, many-self, many-not, over, once, not-below, one-stem}
+use Rattle.clockwise.specs.Walks.{Fanned, Over}
+use Rattle.clockwise.proofs.Discovered.{many-self, many-not, over, once, not-below, one-stem}
 
 module _ (S : Tree) (X : Searched S) (out : ℕ → List ℕ) (O : Fanned S out) (side : ℕ → ℕ) where
   -- what comes in to v from above e

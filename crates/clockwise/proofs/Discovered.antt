@@ -13,14 +13,9 @@ use Rattle.laws.proofs.Lists.{All, all-map}
 use Rattle.laws.proofs.Gathering.{none-of, all-gather, many-gather-one, gather-same}
 use Rattle.tree.specs.Tree.{Tree}
 use Rattle.tree.specs.Words.{BackLine, Above, Leaves}
-use Rattle.tree.proofs.Searched.{Searched}
+use Rattle.tree.specs.Searched.{Searched}
 use Rattle.clockwise.specs.Order.{discovered}
-use Rattle.clockwise.specs.Walks.{Fanned}
-
--- a back line that starts at or above v
-pub record Over (S : Tree) (v b : ℕ) : Type 0 where
-  pub is-back : BackLine S b
-  pub from : Above S v (S .source b)
+use Rattle.clockwise.specs.Walks.{Fanned, Over}
 
 pub many-self : (x : ℕ) → many x (x ∷ []) ≡ 1
 many-self x = omega (arith, many-here x x [] refl, many-nil x)
@@ -116,3 +111,7 @@ module _ (S : Tree) (X : Searched S) (out : ℕ → List ℕ) (O : Fanned S out)
       (λ t. rw t))
       (O .leaves v h))
       ∙ sym (discovered-more S out j v)
+
+  -- what the walk discovers from v is what it discovers by way of each line of its fan
+  pub discovered-here : (v : ℕ) → v < S .vertices → discovered S out (S .vertices) v ≡ gather (by-way S out (S .vertices)) (out v)
+  discovered-here v h = discovered-same (S .vertices) (suc (S .vertices)) v h (omega arith) (omega arith) ∙ discovered-more S out (S .vertices) v

@@ -1,104 +1,97 @@
 -- The walk goes up a tree line: what it needs to set out from its upper end, and what it knows when it is back.
-use mathlib.Core.Bool.{Bool, true, cond}
-use mathlib.Core.List.{List, [], _∷_, _++_, append-nil, append-assoc}
+use mathlib.Core.Bool.{Bool, cond}
+use mathlib.Core.List.{List, [], _∷_, _++_}
+use mathlib.Core.Logic.{_≢_}
 use mathlib.Core.Path.{_≡_, sym, _∙_, ap, subst}
-use Prim.Native.Nat.{ℕ, suc, _+_, _-_, _<_}
+use Prim.Native.Nat.{ℕ, suc, _+_, _<_}
 use native.Mathlib.Omega.{arith}
-use lib.ListN.{length, getD, take, length-append}
-use borrow.Author.Tests.{eq-eqb}
+use lib.ListN.{getD, set, length-set}
+use lib.Seq.{getD-set-same, getD-set-other}
+use Rattle.laws.specs.Counting.{many}
+use Rattle.laws.specs.Lists.{at}
 use Rattle.laws.specs.Sorting.{gather}
-use Rattle.laws.proofs.Places.{gather-append}
-use Rattle.laws.proofs.Gathering.{gather-nil, gather-cons}
-use Rattle.tree.specs.Tree.{Tree, tree-of}
-use Rattle.tree.specs.Words.{Above}
-use Rattle.tree.proofs.Searched.{Searched}
-use Rattle.tree.proofs.Grown.{searched}
-use Rattle.fans.specs.Chains.{Chain}
+use Rattle.laws.proofs.Cases.{cases, bool, true-false, eq-or}
+use Rattle.tree.specs.Tree.{Tree}
+use Rattle.tree.specs.Words.{TreeLine, Above}
+use Rattle.tree.specs.Searched.{Searched}
+use Rattle.fans.specs.Fan.{fan}
+use Rattle.fans.specs.Chains.{ListsChained}
 use Rattle.clockwise.specs.Order.{discovered}
-use Rattle.clockwise.specs.Walks.{target-in, out-in, Walkable, Setting-out, WalkedBack}
-use Rattle.clockwise.proofs.Discovered.{by-way}
-use Rattle.clockwise.proofs.Walking.{Walking, ahead}
+use Rattle.clockwise.specs.Walks.{groups-of, On-path, Setting-out, WalkedBack}
+use Rattle.clockwise.proofs.Leaving.{fanned}
+use Rattle.clockwise.proofs.Discovered.{by-way, once}
+use Rattle.clockwise.proofs.Walking.{Walking, walk-height, walk-ahead, walk-line, walk-fresh, walk-onward}
 
-module _ {n m : ℕ} {ends kind height parent heads nexts : List ℕ} {v count : ℕ} {path₀ found₀ path found stems : List ℕ} {at e : ℕ}
-    (G : Walking n m ends kind height parent heads nexts v count path₀ found₀ path found stems at e) (d : e ≡ 65535 → ⊥)
-    {w : ℕ} (is-w : (w ≡ target-in ends kind height e) × (w < 512)) where
-  abbrev S : Tree
-  S = tree-of n m ends kind height parent
+module _ {S : Tree} {found : List ℕ} {v h : ℕ} {forks uppers choice fans path₀ groups₀ : List ℕ} (O : Setting-out S found v h forks uppers choice fans path₀ groups₀)
+    {path groups : List ℕ} {e : ℕ} (W : Walking S found v h choice fans path₀ path groups e) (d : e ≡ 65535 → ⊥) {w : ℕ} (is-w : (w ≡ getD uppers e 0) × (w < 65536))
+    (some : w ≡ 65535 → ⊥) where
+  X : Searched S
+  X = O .finished .searched
 
   abbrev out : ℕ → List ℕ
-  out = out-in heads nexts
+  out = fan S (at choice)
 
   abbrev B : ℕ → List ℕ
-  B = by-way (tree-of n m ends kind height parent) (out-in heads nexts) n
+  B = by-way S (fan S (at choice)) (S .vertices)
 
-  W : Walkable n m ends kind height parent heads nexts
-  W = G .walkable
+  abbrev so-far : List ℕ
+  so-far = found ++ gather (by-way S (fan S (at choice)) (S .vertices)) (W .done)
 
-  X : Searched (tree-of n m ends kind height parent)
-  X = searched n m ends kind height parent (W .grown)
+  is-tree : TreeLine S e
+  is-tree =
+      cases (bool (S .tree e))
+      (λ t. (walk-ahead O W d .leaves .line, t))
+      (λ t. absurd (some (is-w .0 ∙ O .raised .others e (walk-line O W d) (λ l. true-false (l .1) t))))
 
-  goal : S .target e ≡ w
-  goal = sym (is-w .0)
+  to-w : S .target e ≡ w
+  to-w = sym (is-w .0 ∙ O .raised .trees e is-tree)
 
-  module _ (tree : getD kind e 0 ≡ 0) where
-    is-tree : S .tree e ≡ true
-    is-tree = eq-eqb (getD kind e 0) 0 tree
+  w-in : w < S .vertices
+  w-in = subst (λ (y : ℕ). y < S .vertices) to-w (X .target-in e (is-tree .0))
 
-    up : S .height w ≡ suc (S .height v)
-    up =
-        let A = ahead G d in
-        ap (S .height) (sym goal) ∙ X .rise e (A .leaves .line, is-tree) ∙ ap (λ (y : ℕ). suc (S .height y)) (A .leaves .from)
+  up : S .height w ≡ h + 1
+  up =
+      let q : S .height (S .source e) ≡ S .height v = ap (S .height) (walk-ahead O W d .leaves .from) in
+      let r : S .height (S .target e) ≡ S .height w = ap (S .height) to-w in
+      omega (arith, X .rise e is-tree, O .level)
 
-    way : B e ≡ discovered S out n w
-    way = ap (λ (b : Bool). cond b (discovered S out n (S .target e)) (e ∷ [])) is-tree ∙ ap (discovered S out n) goal
+  way-up : B e ≡ discovered S out (S .vertices) w
+  way-up = ap (λ (b : Bool). cond b (discovered S out (S .vertices) (S .target e)) (e ∷ [])) (is-tree .1) ∙ ap (discovered S out (S .vertices)) to-w
 
-    pub walking-less : n - getD height w 0 < n - getD height v 0
-    walking-less = omega (arith, up, G .height-in)
+  step : Above S v w
+  step = subst (λ (y : ℕ). Above S v y) to-w (subst (λ (y : ℕ). Above S y (S .target e)) (walk-ahead O W d .leaves .from) (X .above-line e is-tree))
 
-    pub walking-up : Setting-out (tree-of n m ends kind height parent) (out-in heads nexts) w at path found stems
-    walking-up =
-        let A = ahead G d in
-        record {
-          vertex-in = subst (λ (y : ℕ). y < n) goal (X .target-in e (A .leaves .line));
-          path-long = G .path-long;
-          found-long = G .found-long;
-          stems-long = G .stems-long;
-          room = omega (arith, A .room, ap length way);
-          path-known = λ j h.
-              let o = G .path-known j (omega (arith, up)) in
-              let step : Above S v w = subst (λ (y : ℕ). Above S v y) goal (subst (λ (y : ℕ). Above S y (S .target e)) (A .leaves .from) (X .above-line e (A .leaves .line, is-tree))) in
-              record { through = o .through; through-in = o .through-in; above = X .above-trans (o .through) v w (o .above) step; level = o .level; line = o .line };
-          stems-known = G .stems-known;
-        }
+  pub walk-up : Setting-out S (found ++ gather (by-way S (fan S (at choice)) (S .vertices)) (W .done)) w (h + 1) forks uppers choice fans (set path h w) groups
+  walk-up =
+      record {
+        finished = O .finished;
+        spans = O .spans;
+        raised = O .raised;
+        choice-long = O .choice-long;
+        bits = O .bits;
+        fanned = O .fanned;
+        vertex-in = w-in;
+        level = up;
+        path-long = length-set path h w ∙ W .path-long;
+        path-known = λ j k.
+            cases (eq-or j h)
+            (λ z.
+            subst (λ (y : ℕ). On-path S w (suc j) y) (sym (ap (λ (y : ℕ). getD (set path h w) y 0) z ∙ getD-set-same path h w 0 (omega (arith, W .path-long, walk-height O))))
+            (record { inside = w-in; above = X .above-self w; level = omega (arith, up) }))
+            (λ n.
+            let n′ : j ≢ h = n in
+            let below : j < h = omega arith in
+            let o = O .path-known j below in
+            subst (λ (y : ℕ). On-path S w (suc j) y) (sym (getD-set-other path h j w 0 n ∙ W .path-kept j below))
+            (record { inside = o .inside; above = X .above-trans (getD path₀ j 0) v w (o .above) step; level = o .level }));
+        fresh = λ b o. walk-fresh O W d b (omega (arith, ap (many b) way-up, once S X out (fanned S (at choice)) (S .vertices) w b w-in (omega arith) (o .is-back) (o .from)));
+        grouped = W .grouped;
+      }
 
-    pub walking-back : {at′ : ℕ} {path′ found′ stems′ : List ℕ} → WalkedBack (tree-of n m ends kind height parent) (out-in heads nexts) w at path found at′ path′ found′ stems′
-        → {after : ℕ} → (after ≡ getD nexts e 0) × (after < 65536) → Walking n m ends kind height parent heads nexts v count path₀ found₀ path′ found′ stems′ at′ after
-    walking-back {at′} {path′} {found′} {stems′} R is-after =
-        let A = ahead G d in
-        let P = R .appended in
-        let D = discovered S out n w in
-        let more : gather B (G .done ++ (e ∷ [])) ≡ gather B (G .done) ++ D =
-        gather-append B (G .done) (e ∷ [])
-        ∙ ap (λ (l : List ℕ). gather B (G .done) ++ l) (gather-cons B e [] ∙ ap (λ (l : List ℕ). B e ++ l) (gather-nil B) ∙ append-nil (B e) ∙ way) in
-        record {
-          walkable = W;
-          vertex-in = G .vertex-in;
-          height-in = G .height-in;
-          path-long = R .path-long;
-          found-long = P .long ∙ G .found-long;
-          found-same = P .long ∙ G .found-same;
-          stems-long = R .stems-long;
-          done = G .done ++ (e ∷ []);
-          rest = A .later;
-          fan = A .fan ∙ sym (append-assoc (G .done) (e ∷ []) (A .later));
-          chain = subst (λ (y : ℕ). Chain nexts y (A .later)) (sym (is-after .0)) (A .chain);
-          leaving = A .leaving;
-          here = omega (arith, P .stop, G .here, ap length more, length-append (gather B (G .done)) D);
-          room = omega (arith, A .room, P .stop, ap length way);
-          written = P .written ∙ ap (λ (l : List ℕ). l ++ D) (G .written) ∙ append-assoc (take count found₀) (gather B (G .done)) D ∙ ap (λ (l : List ℕ). take count found₀ ++ l) (sym more);
-          path-known = λ j h.
-              let o = G .path-known j h in
-              record { through = o .through; through-in = o .through-in; above = o .above; level = o .level; line = R .path-kept j (omega (arith, up)) ∙ o .line };
-          path-kept = λ j h. R .path-kept j (omega (arith, up)) ∙ G .path-kept j h;
-          stems-known = R .stems-known;
-        }
+  pub walk-back : {path′ groups′ : List ℕ}
+      → WalkedBack S (found ++ gather (by-way S (fan S (at choice)) (S .vertices)) (W .done)) w (h + 1) choice (set path h w) path′ groups′
+      → {x : ℕ} → (x ≡ getD fans e 0) × (x < 65536) → Walking S found v h choice fans path₀ path′ groups′ x
+  walk-back {path′} {groups′} R is-x =
+      walk-onward O W d is-x (R .path-long)
+      (λ j k. R .path-kept j (omega arith) ∙ getD-set-other path h j w 0 (λ z. omega arith) ∙ W .path-kept j k)
+      (subst (λ (l : List ℕ). ListsChained groups′ (groups-of S (at choice) (so-far ++ l))) (sym way-up) (R .grouped))

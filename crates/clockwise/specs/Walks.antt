@@ -1,90 +1,108 @@
--- The walk that discovers the back lines. (What functions inside ask of each other.)
-use mathlib.Core.Bool.{Bool, cond, not}
-use mathlib.Core.List.{List}
+-- The walk that discovers the back lines and puts them into groups. (What functions inside ask of each other.)
+use mathlib.Core.Bool.{Bool}
+use mathlib.Core.List.{List, _++_, reverse}
 use mathlib.Core.Path.{_≡_}
-use Prim.Native.Nat.{ℕ, _+_, _*_, _≤_, _<_}
-use lib.Dec.{eqb, ltb}
-use lib.ListN.{getD, length, take}
+use Prim.Native.Nat.{ℕ, suc, _+_, _*_, _≤_, _<_}
+use lib.Dec.{eqb}
+use lib.ListN.{getD, length}
+use Rattle.laws.specs.Tests.{both, least}
 use Rattle.laws.specs.Counting.{many}
+use Rattle.laws.specs.Lists.{keep, at}
 use Rattle.laws.proofs.Lists.{All}
-use Rattle.network.specs.Marks.{tree}
-use Rattle.network.specs.Network.{first, second}
-use Rattle.tree.specs.Tree.{Tree, tree-of, lower, higher}
-use Rattle.tree.specs.Words.{TreeLine, Above, Leaves}
-use Rattle.tree.specs.Grown.{Grown}
-use Rattle.fans.specs.Chains.{Chain, chain-from, Appended}
+use Rattle.network.specs.Marks.{absent}
+use Rattle.tree.specs.Tree.{Tree}
+use Rattle.tree.specs.Returns.{end}
+use Rattle.tree.specs.Words.{TreeLine, BackLine, Above, Leaves}
+use Rattle.fork.specs.Inside.{Finished, Parents, Spans}
+use Rattle.fans.specs.Fan.{fan}
+use Rattle.fans.specs.Chains.{ListsChained}
 use Rattle.clockwise.specs.Order.{discovered}
-
--- Line k starts at its first end.
-unfoldable pub is-forward : List ℕ → List ℕ → List ℕ → ℕ → Bool
-is-forward ends kind height k =
-    let up = ltb (getD height (first ends k) 0) (getD height (second ends k) 0) in
-    cond (eqb (getD kind k 0) tree) up (not up)
-
--- Where line k ends.
-abbrev pub target-in : List ℕ → List ℕ → List ℕ → ℕ → ℕ
-target-in ends kind height k = cond (eqb (getD kind k 0) tree) (higher ends height k) (lower ends height k)
-
--- Line k stands in the tables.
-pub record StandsIn (k : ℕ) (ends kind height : List ℕ) : Type 0 where
-  pub few : k < 2048
-  pub ends-long : 2 * k + 1 < length ends
-  pub kinds-long : k < length kind
-  pub heights-long : length height ≡ 512
-  pub first-in : first ends k < 512
-  pub second-in : second ends k < 512
 
 -- The lines that leave each vertex, each once.
 pub record Fanned (S : Tree) (out : ℕ → List ℕ) : Type 0 where
   pub leaves : (v : ℕ) → v < S .vertices → All (Leaves S v) (out v)
   pub once : (v k : ℕ) → v < S .vertices → Leaves S v k → many k (out v) ≡ 1
 
--- The fan of v in a table of chains.
-abbrev pub out-in : List ℕ → List ℕ → ℕ → List ℕ
-out-in heads nexts v = chain-from nexts 4096 (getD heads v 0)
+-- b is a back line that starts at or above v.
+pub record Over (S : Tree) (v b : ℕ) : Type 0 where
+  pub is-back : BackLine S b
+  pub from : Above S v (S .source b)
 
--- The tables of a finished search, and a fan for each vertex.
-pub record Walkable (n m : ℕ) (ends kind height parent heads nexts : List ℕ) : Type 0 where
-  pub few-vertices : n ≤ 512
-  pub few-lines : m ≤ 2048
-  pub ends-long : length ends ≡ 2 * m
-  pub kinds-long : length kind ≡ 2048
-  pub heights-long : length height ≡ 512
-  pub parents-long : length parent ≡ 512
-  pub heads-long : length heads ≡ 4096
-  pub nexts-long : length nexts ≡ 2048
-  pub grown : Grown n m ends kind height parent
-  pub fanned : Fanned (tree-of n m ends kind height parent) (out-in heads nexts)
-  pub chains : (v : ℕ) → v < n → Chain nexts (getD heads v 0) (out-in heads nexts v)
+-- A finished search with n vertices and one root, vertex 0, and its table of parents.
+pub record Rooted (S : Tree) (n : ℕ) (parents : List ℕ) : Type 0 where
+  pub same-vertices : S .vertices ≡ n
+  pub some-vertex : 0 < n
+  pub finished : Finished S
+  pub leads : Parents S parents
+  pub root-low : S .height 0 ≡ 0
+  pub rooted : (v : ℕ) → v < n → Above S 0 v
 
--- t is the tree line that leads up to the vertex at height j on the way to v.
-pub record On-path (S : Tree) (v j t : ℕ) : Type 0 where
-  pub through : ℕ
-  pub through-in : through < S .vertices
-  pub above : Above S through v
-  pub level : S .height through ≡ j
-  pub line : t ≡ S .parent through
+-- The vertex above each tree line, and nothing at any other place.
+pub record Uppers (S : Tree) (t : List ℕ) : Type 0 where
+  pub long : length t ≡ 2048
+  pub trees : (f : ℕ) → TreeLine S f → getD t f 0 ≡ S .target f
+  pub others : (k : ℕ) → k < 2048 → (TreeLine S k → ⊥) → getD t k 0 ≡ absent
 
--- t is the tree line from whose upper side b comes in to its lower end.
-pub record Stem (S : Tree) (b t : ℕ) : Type 0 where
-  pub is-tree : TreeLine S t
-  pub meets : S .source t ≡ S .target b
-  pub over : Above S (S .target t) (S .source b)
+-- w is the stem of b: the vertex one above the height at which b ends, on the way up to where b starts.
+pub record Stem (S : Tree) (b w : ℕ) : Type 0 where
+  pub inside : w < S .vertices
+  pub over : Above S w (S .source b)
+  pub level : S .height w ≡ suc (end S b)
 
--- The walk may go up from v: there is room for what it will discover, and the path to v is known.
-pub record Setting-out (S : Tree) (out : ℕ → List ℕ) (v at : ℕ) (path found stems : List ℕ) : Type 0 where
+unfoldable pub stemb : Tree → ℕ → ℕ → Bool
+stemb S b w = both (S .above w (S .source b)) (eqb (S .height w) (suc (end S b)))
+
+unfoldable pub stem-of : Tree → ℕ → ℕ
+stem-of S b = least (stemb S b) (S .vertices)
+
+-- The group of a back line, by its stem and its side; and a group's lines among those found, those found later first.
+abbrev pub group-of : Tree → (ℕ → ℕ) → ℕ → ℕ
+group-of S side b = 2 * stem-of S b + side b
+
+abbrev pub groups-of : Tree → (ℕ → ℕ) → List ℕ → ℕ → List ℕ
+groups-of S side found g = reverse (keep (λ b. eqb (group-of S side b) g) found)
+
+-- Line e has a place in the tables by which it finds its group.
+pub record Collectable (e : ℕ) (forks choice path : List ℕ) : Type 0 where
+  pub line-in : e < 2048
+  pub in-choice : e < length choice
+  pub stop-in : getD forks (2048 + e) 0 < 512
+  pub stem-in : getD path (getD forks (2048 + e) 0) 0 < 512
+  pub side-in : getD choice e 0 ≤ 1
+
+-- A contract of the walk speaks of a tree and of the lines found so far, which no parameter holds.
+pub record SomeWalk (Asked : Tree → List ℕ → Type 0) : Type 0 where
+  pub tree : Tree
+  pub found : List ℕ
+  pub asked : Asked tree found
+
+abbrev pub EachWalk : (Tree → List ℕ → Type 0) → (Tree → List ℕ → Type 0) → Type 0
+EachWalk Asked Promised = (S : Tree) (found : List ℕ) → Asked S found → Promised S found
+
+-- u stands at height j on the way to v.
+pub record On-path (S : Tree) (v j u : ℕ) : Type 0 where
+  pub inside : u < S .vertices
+  pub above : Above S u v
+  pub level : S .height u ≡ j
+
+-- The walk may go up from v, at height h: the fans are there, the vertices on the path to v are known, each by the height below it, and what was found is
+-- in its group; no line that starts above v is among that.
+pub record Setting-out (S : Tree) (found : List ℕ) (v h : ℕ) (forks uppers choice fans path groups : List ℕ) : Type 0 where
+  pub finished : Finished S
+  pub spans : Spans S forks
+  pub raised : Uppers S uppers
+  pub choice-long : S .lines ≤ length choice
+  pub bits : (b : ℕ) → BackLine S b → getD choice b 0 ≤ 1
+  pub fanned : ListsChained fans (fan S (at choice))
   pub vertex-in : v < S .vertices
+  pub level : S .height v ≡ h
   pub path-long : length path ≡ 512
-  pub found-long : length found ≡ 2048
-  pub stems-long : length stems ≡ 2048
-  pub room : at + length (discovered S out (S .vertices) v) ≤ 2048
-  pub path-known : (j : ℕ) → j < S .height v → On-path S v j (getD path j 0)
-  pub stems-known : All (λ b. Stem S b (getD stems b 0)) (take at found)
+  pub path-known : (j : ℕ) → j < h → On-path S v (suc j) (getD path j 0)
+  pub fresh : (b : ℕ) → Over S v b → many b found ≡ 0
+  pub grouped : ListsChained groups (groups-of S (at choice) found)
 
--- The walk is back at v: what it discovered is written down, with its stems, and the path to v is as it was.
-pub record WalkedBack (S : Tree) (out : ℕ → List ℕ) (v at : ℕ) (path found : List ℕ) (at′ : ℕ) (path′ found′ stems′ : List ℕ) : Type 0 where
+-- The walk is back at v: what it discovered is in its group too, and the path to v is as it was.
+pub record WalkedBack (S : Tree) (found : List ℕ) (v h : ℕ) (choice path path′ groups′ : List ℕ) : Type 0 where
   pub path-long : length path′ ≡ 512
-  pub stems-long : length stems′ ≡ 2048
-  pub appended : Appended (discovered S out (S .vertices) v) found at found′ at′
-  pub path-kept : (j : ℕ) → j < S .height v → getD path′ j 0 ≡ getD path j 0
-  pub stems-known : All (λ b. Stem S b (getD stems′ b 0)) (take at′ found′)
+  pub path-kept : (j : ℕ) → j < h → getD path′ j 0 ≡ getD path j 0
+  pub grouped : ListsChained groups′ (groups-of S (at choice) (found ++ discovered S (fan S (at choice)) (S .vertices) v))

@@ -1,32 +1,22 @@
-// Where a line ends: a tree line goes up, a back line down.
+// The vertex above each tree line.
 ghost use mathlib.Core.Path.{_≡_};
-ghost use Prim.Native.Nat.{ℕ, _+_, _*_, _<_};
-ghost use Rattle.clockwise.specs.Walks.{StandsIn, «is-forward», «target-in»};
-use network::Kind;
+ghost use Prim.Native.Nat.{ℕ, _<_};
+ghost use lib.ListN.{replicate};
+ghost use Rattle.network.specs.Marks.{absent};
+ghost use Rattle.fork.specs.Inside.{SomeTree, EachTree};
+ghost use Rattle.clockwise.specs.Walks.{Rooted, Uppers};
 use network::wide;
 
-pub(crate) fn target(k: usize, ends: &[u16], kinds: &[u8], heights: &[u16]) -> usize
-    requires { ⌜ StandsIn k (now ends) (now kinds) (now heights) ⌝ }
-    ensures { λ r. ⌜ (r ≡ target-in (now (ends .entry)) (now (kinds .entry)) (now (heights .entry)) k) × (r < 512) ⌝ }
+// Written to an empty table, so that lines which are no tree lines have nothing. The root, vertex 0, has no line that leads up to it.
+pub(crate) fn raised(vertices: usize, parents: &[u16; 512], uppers: &mut [u16; 2048])
+    requires { ⌜ SomeTree (λ S. Rooted S vertices (now parents)) ⌝ }
+    requires { ⌜ now uppers ≡ replicate 2048 absent ⌝ }
+    ensures { λ _. ⌜ EachTree (λ S. Rooted S vertices (now (parents .entry))) (λ S. Uppers S (now (uppers .exit))) ⌝ }
 {
-    if is_forward(k, ends, kinds, heights) {
-        wide(ends[2 * k + 1])
-    } else {
-        wide(ends[2 * k])
+    let mut v = 1;
+    while v < vertices {
+        let f = wide(parents[v]);
+        uppers[f] = v as u16;
+        v += 1;
     }
-}
-
-// Whether the line starts at its first end.
-fn is_forward(k: usize, ends: &[u16], kinds: &[u8], heights: &[u16]) -> bool
-    requires { ⌜ StandsIn k (now ends) (now kinds) (now heights) ⌝ }
-    ensures { λ r. ⌜ r ≡ is-forward (now (ends .entry)) (now (kinds .entry)) (now (heights .entry)) k ⌝ }
-{
-    let a = wide(ends[2 * k]);
-    let b = wide(ends[2 * k + 1]);
-    let low = heights[a];
-    let high = heights[b];
-    if kinds[k] == Kind::TREE {
-        return low < high;
-    }
-    high <= low
 }

@@ -18,19 +18,17 @@ use Rattle.laws.proofs.Counting.{count-same, count-all}
 use Rattle.laws.proofs.Orbits.{In, Turn, count-few, number-below}
 use Rattle.laws.proofs.Agreeing.{turn-agree, number-agree, walks-agree}
 use Rattle.laws.proofs.Places.{from-snoc}
-use Rattle.network.specs.Network.{Network, network-of}
+use Rattle.network.specs.Network.{Network, network, network-of}
 use Rattle.network.specs.Inside.{Fit}
-use Rattle.tree.specs.Tree.{Tree, tree-of}
+use Rattle.tree.specs.Tree.{Tree}
 use Rattle.meshes.specs.Meshes.{other-way, leave-by, follow, turned, next-direction, either-way, mesh-of, mesh-count, borders, mesh-size, mesh-list, size-list}
 use Rattle.meshes.specs.Inside.{every, Whole, order-in, Laid, Linked, Numberable, Numbered, on-mesh, Meshed, Sized}
 use Rattle.meshes.proofs.Directions.{other-way-below}
 use Rattle.meshes.proofs.Turning.{turn}
 use Rattle.clockwise.specs.Order.{order-at, flat}
 use Rattle.clockwise.specs.Laying.{Laid-out}
-use Rattle.clockwise.specs.Ordering.{Orderable}
 use Rattle.clockwise.proofs.Flat.{flat-next, flat-rises, flat-full}
-use Rattle.clockwise.proofs.Ranking.{all-live, order-fits, order-whole}
-use Rattle.drawing.specs.Drawing.{Drawn}
+use Rattle.drawing.specs.Drawing.{Sketchable, Drawn}
 
 -- a list by its places
 take-map : (f : ℕ → ℕ) (k : ℕ) (l : List ℕ) → k ≤ length l → ((i : ℕ) → i < k → getD l i 0 ≡ f i) → take k l ≡ map f (upto k)
@@ -181,27 +179,29 @@ module _ {n m : ℕ} {ends : List ℕ} (fit : Fit (network-of n m ends)) {live :
 
 -- The whole drawing
 
-module _ {n m : ℕ} {ends kinds heights parents sources lows highs tops choice : List ℕ} (P : Orderable n m ends kinds heights parents sources lows highs tops choice) where
-  abbrev S : Tree
-  S = tree-of n m ends kinds heights parents
+module _ {S : Tree} {n : ℕ} {ends parents forks choice : List ℕ} (P : Sketchable S n ends parents forks choice) where
+  abbrev m : ℕ
+  m = length ends / 2
 
-  module _ {order starts : List ℕ} (L : Laid-out n (order-at (tree-of n m ends kinds heights parents) (at choice)) order starts) where
-    pub drawn-laid : Laid (network-of n m ends) order starts
-    drawn-laid = mesh-laid (order-fits P) (all-live P) (order-whole P) L
+  all-live : (k : ℕ) → k < length ends / 2 → S .live k ≡ true
+  all-live k h = P .orderable .finished .every k (omega (arith, P .orderable .same-lines)) .yes
 
-    module _ {nexts : List ℕ} (K : Linked (network-of n m ends) order starts n nexts) where
-      pub drawn-numberable : Numberable (2 * m) nexts
-      drawn-numberable = mesh-numberable (order-fits P) (all-live P) (order-whole P) L K
+  module _ {order starts : List ℕ} (L : Laid-out n (order-at S (at choice)) order starts) where
+    pub drawn-laid : Laid (network n ends) order starts
+    drawn-laid = mesh-laid (P .fits) all-live (P .whole) L
 
-      module _ {c : ℕ} {mesh : List ℕ} (N : Numbered (2 * m) nexts c mesh) where
-        pub drawn-meshed : Meshed m mesh
-        drawn-meshed = mesh-meshed (order-fits P) (all-live P) (order-whole P) L K N
+    module _ {nexts : List ℕ} (K : Linked (network n ends) order starts n nexts) where
+      pub drawn-numberable : Numberable (2 * (length ends / 2)) nexts
+      drawn-numberable = mesh-numberable (P .fits) all-live (P .whole) L K
 
-        module _ {sizes : List ℕ} (Z : Sized m mesh sizes) where
-          drawn : (count : ℕ) → count ≤ 2 * m + 1 → count ≡ mesh-count (tree-of n m ends kinds heights parents .live) m ends (order-at (tree-of n m ends kinds heights parents) (at choice))
-              → Drawn n m ends kinds heights parents choice order count mesh sizes
+      module _ {c : ℕ} {mesh : List ℕ} (N : Numbered (2 * (length ends / 2)) nexts c mesh) where
+        pub drawn-meshed : Meshed (length ends / 2) mesh
+        drawn-meshed = mesh-meshed (P .fits) all-live (P .whole) L K N
+
+        module _ {sizes : List ℕ} (Z : Sized (length ends / 2) mesh sizes) where
+          drawn : (count : ℕ) → count ≤ 2 * (length ends / 2) + 1 → count ≡ mesh-count (S .live) (length ends / 2) ends (order-at S (at choice)) → Drawn S n ends choice order count mesh sizes
           drawn count few e =
-              let F = order-fits P in
+              let F = P .fits in
               record {
                 order-long = L .order-long;
                 mesh-long = N .mesh-long;
@@ -209,14 +209,14 @@ module _ {n m : ℕ} {ends kinds heights parents sources lows highs tops choice 
                 count-few = few;
                 order-is =
                     subst (λ (k : ℕ). take k order ≡ flat n (order-at S (at choice)))
-                    (flat-full (network-of n m ends) F (S .live) (order-at S (at choice)) (order-whole P) (all-live P)) (L .written);
+                    (flat-full (network n ends) F (S .live) (order-at S (at choice)) (P .whole) all-live) (L .written);
                 count-is = e;
-                mesh-is = meshes-listed F (all-live P) (order-whole P) L K N;
-                sizes-are = sizes-listed F (all-live P) (order-whole P) L K N Z e (omega (arith, F .few-lines));
+                mesh-is = meshes-listed F all-live (P .whole) L K N;
+                sizes-are = sizes-listed F all-live (P .whole) L K N Z e (omega (arith, F .few-lines));
               }
 
-          pub drawn-lone : m ≡ 0 → Drawn n m ends kinds heights parents choice order 1 mesh sizes
-          drawn-lone e = drawn 1 (omega arith) (mesh-none (order-fits P) (all-live P) (order-whole P) L K N e)
+          pub drawn-lone : length ends / 2 ≡ 0 → Drawn S n ends choice order 1 mesh sizes
+          drawn-lone e = drawn 1 (omega arith) (mesh-none (P .fits) all-live (P .whole) L K N e)
 
-          pub drawn-some : (m ≡ 0 → ⊥) → Drawn n m ends kinds heights parents choice order c mesh sizes
-          drawn-some d = drawn c (omega (arith, N .few)) (mesh-some (order-fits P) (all-live P) (order-whole P) L K N d)
+          pub drawn-some : (length ends / 2 ≡ 0 → ⊥) → Drawn S n ends choice order c mesh sizes
+          drawn-some d = drawn c (omega (arith, N .few)) (mesh-some (P .fits) all-live (P .whole) L K N d)

@@ -3,3 +3,4 @@ pub mod Bucketing
 pub mod Fanning
 pub mod Tabulating
 pub mod Nesting
+pub mod Ranking

@@ -4,7 +4,7 @@ use mathlib.Core.Logic.{_≢_}
 use mathlib.Core.Path.{_≡_, sym, _∙_, ap, subst}
 use Prim.Native.Nat.{ℕ, _+_, _*_, _≤_, _<_}
 use native.Mathlib.Omega.{arith}
-use lib.ListN.{length, getD, set, replicate, length-set, length-replicate}
+use lib.ListN.{length, getD, set, length-set}
 use lib.Seq.{getD-set-same, getD-set-other}
 use borrow.Author.Tests.{eq-eqb, ne-eqb, lt-ltb, le-ltb}
 use Rattle.laws.proofs.Cases.{cases, eq-or}
@@ -16,8 +16,8 @@ pub record Tabulating (f : ℕ → ℕ) (m : ℕ) (table : List ℕ) (k : ℕ) :
   pub each : (j : ℕ) → j < k → getD table j 0 ≡ f j
 
 module _ (f : ℕ → ℕ) (m : ℕ) where
-  pub tabulating-start : Tabulating f m (replicate {A = ℕ} 2048 0) 0
-  tabulating-start = record { upto = omega arith; long = length-replicate {A = ℕ} 2048 0; each = λ j h. absurd (omega arith) }
+  pub tabulating-start : (table : List ℕ) → length table ≡ 2048 → Tabulating f m table 0
+  tabulating-start table long = record { upto = omega arith; long = long; each = λ j h. absurd (omega arith) }
 
   pub tabulating-more : (table : List ℕ) (k x : ℕ) → Tabulating f m table k → k < m → m ≤ 2048 → x ≡ f k → Tabulating f m (set table k x) (k + 1)
   tabulating-more table k x T h few e =
@@ -41,26 +41,32 @@ rank-more low high h = rw (lt-ltb low high h)
 pub rank-one : (low high : ℕ) → high ≤ low → 2 * low ≡ rank-of low high
 rank-one low high h = rw (le-ltb low high h) (omega arith)
 
-module _ (m : ℕ) (lows highs : List ℕ) (R : Nestable m lows highs) (ranks : List ℕ) (k : ℕ) (T : Tabulating (rank-in lows highs) m ranks k) (h : k < m)
-    (a : ℕ) (is-a : (a ≡ getD lows k 0) × (a < 65536)) where
+module _ (m : ℕ) (forks : List ℕ) (R : Nestable m forks) (ranks : List ℕ) (k : ℕ) (T : Tabulating (rank-in forks) m ranks k) (h : k < m)
+    (a : ℕ) (is-a : (a ≡ getD forks (4096 + k) 0) × (a < 65536)) where
   pub ranking-low : a < 512
   ranking-low = omega (arith, R .small k h, is-a .0)
 
-  pub ranking-more : (b : ℕ) → (b ≡ getD highs k 0) × (b < 65536) → (r : ℕ) → (r ≡ rank-of a b) × (r < 1024) → Tabulating (rank-in lows highs) m (set ranks k r) (k + 1)
+  pub ranking-more : (b : ℕ) → (b ≡ getD forks (6144 + k) 0) × (b < 65536) → (r : ℕ) → (r ≡ rank-of a b) × (r < 1024) → Tabulating (rank-in forks) m (set ranks k r) (k + 1)
   ranking-more b is-b r is-r =
-      tabulating-more (rank-in lows highs) m ranks k r T h (R .few) (is-r .0 ∙ ap (λ (x : ℕ). rank-of x b) (is-a .0) ∙ ap (rank-of (getD lows k 0)) (is-b .0))
+      tabulating-more (rank-in forks) m ranks k r T h (R .few) (is-r .0 ∙ ap (λ (x : ℕ). rank-of x b) (is-a .0) ∙ ap (rank-of (getD forks (4096 + k) 0)) (is-b .0))
 
 -- One line's side
 
-module _ (m k : ℕ) (kinds tops choice : List ℕ) where
-  pub side-own : (getD kinds k 0 ≡ 0 → ⊥) → getD choice k 0 ≡ side-in m kinds tops choice k
-  side-own d = rw (ne-eqb (getD kinds k 0) 0 d)
+module _ (m k : ℕ) (forks choice : List ℕ) where
+  abbrev stop : ℕ
+  stop = getD forks (2048 + k) 0
 
-  module _ (tree : getD kinds k 0 ≡ 0) (t : ℕ) (is-t : (t ≡ getD tops k 0) × (t < 65536)) where
-    pub side-top : t < m → getD choice t 0 ≡ side-in m kinds tops choice k
+  abbrev top : ℕ
+  top = getD forks (8192 + k) 0
+
+  pub side-own : (getD forks (2048 + k) 0 ≡ 512 → ⊥) → getD choice k 0 ≡ side-in m forks choice k
+  side-own d = rw (ne-eqb stop 512 d)
+
+  module _ (tree : getD forks (2048 + k) 0 ≡ 512) (t : ℕ) (is-t : (t ≡ getD forks (8192 + k) 0) × (t < 65536)) where
+    pub side-top : t < m → getD choice t 0 ≡ side-in m forks choice k
     side-top h =
         ap (λ (x : ℕ). getD choice x 0) (is-t .0)
-        ∙ sym (rw (eq-eqb (getD kinds k 0) 0 tree, lt-ltb (getD tops k 0) m (subst (λ (x : ℕ). x < m) (is-t .0) h)))
+        ∙ sym (rw (eq-eqb stop 512 tree, lt-ltb top m (subst (λ (x : ℕ). x < m) (is-t .0) h)))
 
-    pub side-none : m ≤ t → 1 ≡ side-in m kinds tops choice k
-    side-none h = sym (rw (eq-eqb (getD kinds k 0) 0 tree, le-ltb (getD tops k 0) m (subst (λ (x : ℕ). m ≤ x) (is-t .0) h)))
+    pub side-none : m ≤ t → 1 ≡ side-in m forks choice k
+    side-none h = sym (rw (eq-eqb stop 512 tree, le-ltb top m (subst (λ (x : ℕ). m ≤ x) (is-t .0) h)))

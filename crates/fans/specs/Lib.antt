@@ -2,3 +2,4 @@
 pub mod Fan
 pub mod Nesting
 pub mod Chains
+pub mod Fanning

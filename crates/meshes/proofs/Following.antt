@@ -97,15 +97,16 @@ pub record Marking (n : ℕ) (nexts mesh : List ℕ) (c d : ℕ) : Type 0 where
   pub done : Done n every (at nexts) absent d c (at mesh)
 
 module _ (n : ℕ) (nexts : List ℕ) (N : Numberable n nexts) where
-  pub marking-start : Marking n nexts (replicate {A = ℕ} 4096 65535) 0 0
-  marking-start =
-      record {
+  pub marking-start : (mesh : List ℕ) → mesh ≡ replicate 4096 absent → Marking n nexts mesh 0 0
+  marking-start mesh e =
+      rw e
+      (record {
         mesh-long = length-replicate {A = ℕ} 4096 65535;
         upto = omega arith;
         few = omega arith;
         done = start n every (at nexts) absent (N .turn) (big n 0 0 nexts N) (at (replicate {A = ℕ} 4096 65535))
             (λ x h. getD-replicate {A = ℕ} 4096 x 65535 0 (omega (arith, N .few, h .below)));
-      }
+      })
 
   module _ (mesh : List ℕ) (c d : ℕ) (M : Marking n nexts mesh c d) (h : d < n) where
     pub marking-more : (after : List ℕ) → Followed n d c nexts after → Marking n nexts after (c + 1) (d + 1)

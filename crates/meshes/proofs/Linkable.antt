@@ -3,7 +3,7 @@ use mathlib.Core.List.{List}
 use mathlib.Core.Path.{_≡_, _∙_, ap}
 use Prim.Native.Nat.{ℕ, _+_, _-_, _*_, _≤_, _<_}
 use native.Mathlib.Omega.{arith}
-use lib.ListN.{length, getD, set, replicate}
+use lib.ListN.{length, getD, set}
 use Rattle.network.specs.Network.{network-of}
 use Rattle.network.specs.Inside.{Fit}
 use Rattle.meshes.specs.Meshes.{other-way, leave-by}
@@ -93,10 +93,10 @@ pub record Linkeds (n m : ℕ) (ends order starts : List ℕ) (v : ℕ) (nexts :
   pub linked : Linked (network-of n m ends) order starts v nexts
 
 module _ {n m : ℕ} {ends order starts : List ℕ} where
-  pub linkeds-start : Fit (network-of n m ends) → Laid (network-of n m ends) order starts → Linkeds n m ends order starts 0 (replicate {A = ℕ} 4096 0)
-  linkeds-start fit laid =
-      let l = linked-start (network-of n m ends) fit order starts laid in
-      record { upto = omega arith; nexts-long = l .nexts-long; linked = l }
+  pub linkeds-start : Fit (network-of n m ends) → Laid (network-of n m ends) order starts → {nexts : List ℕ} → length nexts ≡ 4096
+      → Linkeds n m ends order starts 0 nexts
+  linkeds-start fit laid {nexts} long =
+      record { upto = omega arith; nexts-long = long; linked = linked-start (network-of n m ends) fit order starts laid nexts long }
 
   pub linkeds-more : {v : ℕ} {nexts : List ℕ} → Linked (network-of n m ends) order starts (v + 1) nexts → v < n → Linkeds n m ends order starts (v + 1) nexts
   linkeds-more L h = record { upto = omega arith; nexts-long = L .nexts-long; linked = L }

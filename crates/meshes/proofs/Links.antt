@@ -5,7 +5,7 @@ use mathlib.Core.Path.{_≡_, refl, sym, _∙_, ap, subst}
 use Prim.Native.Nat.{ℕ, _+_, _-_, _*_, _/_, _%_, _≤_, _<_}
 use native.Mathlib.Numerals.{add-one}
 use native.Mathlib.Omega.{arith}
-use lib.ListN.{length, getD, set, length-set, replicate, length-replicate}
+use lib.ListN.{length, getD, set, length-set}
 use lib.Seq.{getD-set-same, getD-set-other, getD-drop, getD-take, length-slice}
 use Rattle.laws.specs.Counting.{many}
 use Rattle.laws.proofs.Cases.{cases, eq-or, lt-or}
@@ -135,8 +135,8 @@ module _ (net : Network) (fit : Fit net) (order starts : List ℕ) (laid : Laid 
             ∙ sym (s .2));
       }
 
-  pub linked-start : Linked net order starts 0 (replicate {A = ℕ} 4096 0)
-  linked-start = record { nexts-long = length-replicate {A = ℕ} 4096 0; so-far = λ d h g. absurd (omega arith) }
+  pub linked-start : (nexts : List ℕ) → length nexts ≡ 4096 → Linked net order starts 0 nexts
+  linked-start nexts long = record { nexts-long = long; so-far = λ d h g. absurd (omega arith) }
 
 -- The small steps of the code
 

@@ -36,13 +36,14 @@ pub record Sizing (m : ℕ) (mesh sizes : List ℕ) (k : ℕ) : Type 0 where
   pub sizes-are : (j : ℕ) → j < 4097 → getD sizes j 0 ≡ count (on-mesh mesh j) k
 
 module _ (m : ℕ) (mesh : List ℕ) where
-  pub sizing-start : Sizing m mesh (replicate {A = ℕ} 4097 0) 0
-  sizing-start =
-      record {
+  pub sizing-start : (sizes : List ℕ) → sizes ≡ replicate 4097 0 → Sizing m mesh sizes 0
+  sizing-start sizes e =
+      rw e
+      (record {
         sizes-long = length-replicate {A = ℕ} 4097 0;
         upto = omega arith;
         sizes-are = λ j h. getD-replicate {A = ℕ} 4097 j 0 0 h ∙ sym (count-zero (on-mesh mesh j));
-      }
+      })
 
   pub sizing-back : (k : ℕ) → Meshed m mesh → k < m → (b : ℕ) → (b ≡ getD mesh (2 * k + 1) 0) × (b < 65536) → b < 4097
   sizing-back k M h b is-b = omega (arith, M .small (2 * k + 1) (omega arith), is-b .0)
@@ -51,17 +52,20 @@ module _ (m : ℕ) (mesh : List ℕ) where
     pub sizing-forth : a < 4097
     sizing-forth = omega (arith, M .small (2 * k) (omega arith), is-a .0)
 
-    pub sizing-room : getD sizes a 0 < 2048
-    sizing-room = omega (arith, S .sizes-are a sizing-forth, count-few (on-mesh mesh a) k, M .few)
+    room : getD sizes a 0 < 2048
+    room = omega (arith, S .sizes-are a sizing-forth, count-few (on-mesh mesh a) k, M .few)
+
+    pub sizing-add : getD sizes a 0 + 1 < 65536
+    sizing-add = omega (arith, room)
 
     module _ (b : ℕ) (is-b : (b ≡ getD mesh (2 * k + 1) 0) × (b < 65536)) where
       back-in : b < 4097
       back-in = sizing-back k M h b is-b
 
-      pub sizing-room-back : getD (set sizes a (getD sizes a 0 + 1)) b 0 < 2049
-      sizing-room-back =
+      pub sizing-add-back : getD (set sizes a (getD sizes a 0 + 1)) b 0 + 1 < 65536
+      sizing-add-back =
           cases (eq-or b a)
-          (λ e. rw (e, getD-set-same sizes a (getD sizes a 0 + 1) 0 (omega (arith, S .sizes-long, sizing-forth))) (omega (arith, sizing-room)))
+          (λ e. rw (e, getD-set-same sizes a (getD sizes a 0 + 1) 0 (omega (arith, S .sizes-long, sizing-forth))) (omega (arith, room)))
           (λ d. rw (getD-set-other sizes a b (getD sizes a 0 + 1) 0 d) (omega (arith, S .sizes-are b back-in, count-few (on-mesh mesh b) k, M .few)))
 
       -- what a mesh has after line k

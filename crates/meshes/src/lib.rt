@@ -4,38 +4,36 @@
 // it began.
 pub mod turns;
 
+ghost use mathlib.Core.Path.{_≡_};
 ghost use Prim.Native.Nat.{ℕ, _+_, _*_, _<_};
+ghost use lib.ListN.{replicate};
+ghost use Rattle.network.specs.Marks.{absent};
 ghost use Rattle.meshes.specs.Inside.{Numberable, Numbered, Followable, Followed, Meshed, Sized};
 use network::Absent;
 use network::wide;
 
-// How many meshes there are, and the mesh of each direction.
-pub struct Meshes {
-    pub count: usize,
-    pub mesh: [u16; 4096],
-}
-
-// Numbers the walks in rising order of their lowest direction: a direction that is on no mesh yet is the lowest of its own.
-pub fn numbered(directions: usize, nexts: &[u16]) -> Meshes
+// Numbers the walks in rising order of their lowest direction: a direction that is on no mesh yet is the lowest of its own. Writes the mesh of each
+// direction to an empty table, and answers how many meshes there are.
+pub fn numbered(directions: usize, nexts: &[u16; 4096], mesh: &mut [u16; 4096]) -> usize
     requires { ⌜ Numberable directions (now nexts) ⌝ }
-    ensures { λ r. ⌜ Numbered directions (now (nexts .entry)) (r .count) (r .mesh) ⌝ }
+    requires { ⌜ now mesh ≡ replicate 4096 absent ⌝ }
+    ensures { λ r. ⌜ Numbered directions (now (nexts .entry)) r (now (mesh .exit)) ⌝ }
 {
-    let mut mesh = [Absent::ENTRY; 4096];
     let mut count = 0;
     let mut d = 0;
     while d < directions {
         let after = d + 1;
         if mesh[d] == Absent::ENTRY {
-            follow(directions, d, count, nexts, &mut mesh);
+            follow(directions, d, count, nexts, mesh);
             count += 1;
         }
         d = after;
     }
-    Meshes { count, mesh }
+    count
 }
 
 // Walks from d until it is back, and gives each direction on the way the number.
-fn follow(directions: usize, d: usize, number: usize, nexts: &[u16], mesh: &mut [u16])
+fn follow(directions: usize, d: usize, number: usize, nexts: &[u16; 4096], mesh: &mut [u16; 4096])
     requires { ⌜ Numberable directions (now nexts) ⌝ }
     requires { ⌜ Followable directions d number (now nexts) (now mesh) ⌝ }
     ensures { λ _. ⌜ Followed directions d number (now (nexts .entry)) (now (mesh .exit)) ⌝ }
@@ -47,12 +45,12 @@ fn follow(directions: usize, d: usize, number: usize, nexts: &[u16], mesh: &mut 
     }
 }
 
-// How many lines each mesh has on it, one that it walks both ways counted once.
-pub fn sized(lines: usize, mesh: &[u16]) -> [u16; 4097]
+// How many lines each mesh has on it, one that it walks both ways counted once. Written to a table of zeroes.
+pub fn sized(lines: usize, mesh: &[u16; 4096], sizes: &mut [u16; 4097])
     requires { ⌜ Meshed lines (now mesh) ⌝ }
-    ensures { λ r. ⌜ Sized lines (now (mesh .entry)) r ⌝ }
+    requires { ⌜ now sizes ≡ replicate 4097 0 ⌝ }
+    ensures { λ _. ⌜ Sized lines (now (mesh .entry)) (now (sizes .exit)) ⌝ }
 {
-    let mut sizes = [0u16; 4097];
     let mut k = 0;
     while k < lines {
         let after = k + 1;
@@ -64,5 +62,4 @@ pub fn sized(lines: usize, mesh: &[u16]) -> [u16; 4097]
         }
         k = after;
     }
-    sizes
 }

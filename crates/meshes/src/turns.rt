@@ -13,20 +13,20 @@ pub fn linked(
     vertices: usize,
     lines: usize,
     ends: &[u16],
-    order: &[u16],
-    starts: &[u16],
-) -> [u16; 4096]
+    order: &[u16; 4096],
+    starts: &[u16; 513],
+    nexts: &mut [u16; 4096],
+)
     requires { ⌜ Fit (network-of vertices lines (now ends)) ⌝ }
     requires { ⌜ Laid (network-of vertices lines (now ends)) (now order) (now starts) ⌝ }
-    ensures { λ r. ⌜ Linked (network-of vertices lines (now (ends .entry))) (now (order .entry)) (now (starts .entry)) vertices r ⌝ }
+    requires { ⌜ length (now nexts) ≡ 4096 ⌝ }
+    ensures { λ _. ⌜ Linked (network-of vertices lines (now (ends .entry))) (now (order .entry)) (now (starts .entry)) vertices (now (nexts .exit)) ⌝ }
 {
-    let mut nexts = [0u16; 4096];
     let mut v = 0;
     while v < vertices {
-        link(vertices, lines, v, ends, order, starts, &mut nexts);
+        link(vertices, lines, v, ends, order, starts, nexts);
         v += 1;
     }
-    nexts
 }
 
 // The directions that follow those which arrive at v.
@@ -35,9 +35,9 @@ fn link(
     lines: usize,
     v: usize,
     ends: &[u16],
-    order: &[u16],
-    starts: &[u16],
-    nexts: &mut [u16],
+    order: &[u16; 4096],
+    starts: &[u16; 513],
+    nexts: &mut [u16; 4096],
 )
     requires { ⌜ Fit (network-of vertices lines (now ends)) ⌝ }
     requires { ⌜ Laid (network-of vertices lines (now ends)) (now order) (now starts) ⌝ }

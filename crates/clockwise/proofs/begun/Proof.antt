@@ -1,15 +1,9 @@
--- `begun` by the height of v.
-use native.Mathlib.Omega.{arith}
+-- `begun` by the vertex.
 use Rattle.clockwise.proofs.Spreading.{begun-none, begun-room, begun-one}
+use native.Mathlib.Omega.{arith}
 use borrow.Author.Needs.{needs}
 use Rattle.clockwise.proofs.begun.Statement.{statement}
 use Rattle.clockwise.proofs.begun.Tie as tie
-
-mul-if1 : tie.Need-mul-if1
-mul-if1 c = search needs
-
-shared-slice-read-if1 : tie.Need-shared-slice-read-if1
-shared-slice-read-if1 c = search needs
 
 returns : tie.Need-returns
 returns c = search begun-none
@@ -17,20 +11,17 @@ returns c = search begun-none
 mul-order : tie.Need-mul-order
 mul-order c = search needs
 
-shared-slice-read-order : tie.Need-shared-slice-read-order
-shared-slice-read-order c = search needs
+element-copy-out-order : tie.Need-element-copy-out-order
+element-copy-out-order c = search needs
 
 mul-order-2 : tie.Need-mul-order-2
-mul-order-2 c = omega (arith, begun-room (c .before .before .before .pre) (c .before .if1 .left))
+mul-order-2 c = omega (arith, begun-room (c .before .before .pre) (c .before .if1 .left))
 
-slice-write-order : tie.Need-slice-write-order
-slice-write-order c = omega (arith, begun-room (c .before .before .before .pre) (c .before .if1 .left))
+element-write-order : tie.Need-element-write-order
+element-write-order c = search begun-room
 
 add-result : tie.Need-add-result
-add-result c = omega (arith, begun-room (c .before .before .before .pre) (c .before .if1 .left))
-
-same-length : tie.Need-same-length
-same-length c = search needs
+add-result c = omega (arith, begun-room (c .before .before .pre) (c .before .if1 .left))
 
 returns-2 : tie.Need-returns-2
 returns-2 c = search begun-one
@@ -39,13 +30,10 @@ pub begun-spec : {M : Type 1} → statement M
 begun-spec =
     tie.close
     (tie.spec
-    mul-if1
-    shared-slice-read-if1
     returns
     mul-order
-    shared-slice-read-order
+    element-copy-out-order
     mul-order-2
-    slice-write-order
+    element-write-order
     add-result
-    same-length
     returns-2)

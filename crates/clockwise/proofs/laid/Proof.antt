@@ -1,28 +1,24 @@
 -- The vertices below v are done.
-use Prim.Native.Nat.{_-_}
-use native.Mathlib.Omega.{arith}
 use Rattle.clockwise.proofs.Spreading.{Laying, laying-start, laying-begins, laying-spreads, laying-small, laying-more, laying-done}
+use Prim.Native.Nat.{_-_}
 use borrow.Author.Needs.{needs}
 use Rattle.clockwise.proofs.laid.Statement.{statement}
 use Rattle.clockwise.proofs.laid.Tie as tie
 
 abbrev Inv-loop : tie.InvT-loop
-Inv-loop vertices heights parents fans nexts groups after order₀ starts₀ at₀ v₀ order starts at v = Laying vertices heights parents fans nexts groups after order starts at v
+Inv-loop vertices parents uppers fans groups order₀ starts₀ at₀ v₀ order starts at v = Laying vertices parents uppers fans groups order starts at v
 
 abbrev μ-loop : tie.MeasureT-loop
-μ-loop vertices heights parents fans nexts groups after order₀ starts₀ at₀ v₀ order starts at v = vertices - v
+μ-loop vertices parents uppers fans groups order₀ starts₀ at₀ v₀ order starts at v = vertices - v
+
+element-write-starts : tie.Need-element-write-starts Inv-loop μ-loop
+element-write-starts c = search needs
 
 loop-holds : tie.Need-loop-holds Inv-loop μ-loop
-loop-holds c = search laying-start
-
-slice-aggregate-begun : tie.Need-slice-aggregate-begun Inv-loop μ-loop
-slice-aggregate-begun c = search needs
+loop-holds c = laying-start (c .pre .0) (c .args .starts .now) (c .pre .1)
 
 begun-requires : tie.Need-begun-requires Inv-loop μ-loop
 begun-requires c κs = search laying-begins
-
-slice-aggregate-spread : tie.Need-slice-aggregate-spread Inv-loop μ-loop
-slice-aggregate-spread c = search needs
 
 spread-requires : tie.Need-spread-requires Inv-loop μ-loop
 spread-requires c κs = search laying-spreads
@@ -31,19 +27,19 @@ add-v : tie.Need-add-v Inv-loop μ-loop
 add-v c = search needs
 
 cast-starts : tie.Need-cast-starts Inv-loop μ-loop
-cast-starts c = omega (arith, laying-small (c .before .before .before .before .before .before .before .before .before .before .before .before .before .before .pre) (c .before .before .before .before .before .before .before .loop .inv) (c .before .before .before .before .before .before .loop-test .taken) (c .before .before .before .before .begun .ensures) (c .before .spread .ensures) .0)
+cast-starts c = search laying-small
 
 mul-starts : tie.Need-mul-starts Inv-loop μ-loop
-mul-starts c = omega (arith, laying-small (c .before .before .before .before .before .before .before .before .before .before .before .before .before .before .pre) (c .before .before .before .before .before .before .before .loop .inv) (c .before .before .before .before .before .before .loop-test .taken) (c .before .before .before .before .begun .ensures) (c .before .spread .ensures) .1)
+mul-starts c = search needs
 
-array-write-starts : tie.Need-array-write-starts Inv-loop μ-loop
-array-write-starts c = omega (arith, laying-small (c .before .before .before .before .before .before .before .before .before .before .before .before .before .before .pre) (c .before .before .before .before .before .before .before .loop .inv) (c .before .before .before .before .before .before .loop-test .taken) (c .before .before .before .before .begun .ensures) (c .before .spread .ensures) .1)
+element-write-starts-2 : tie.Need-element-write-starts-2 Inv-loop μ-loop
+element-write-starts-2 c = search needs
 
 loop-less : tie.Need-loop-less Inv-loop μ-loop
 loop-less c = search needs
 
 loop-again : tie.Need-loop-again Inv-loop μ-loop
-loop-again c = laying-more (c .before .before .before .before .before .before .before .before .before .before .before .before .before .before .pre) (c .before .before .before .before .before .before .before .loop .inv) (c .before .before .before .before .before .before .loop-test .taken) (c .before .before .before .before .begun .ensures) (c .before .spread .ensures)
+loop-again c = laying-more (c .before .before .before .before .before .before .pre .0) (c .before .before .before .before .before .loop .inv) (c .before .before .before .before .loop-test .taken) (c .before .before .begun .ensures) (c .spread .ensures)
 
 returns : tie.Need-returns Inv-loop μ-loop
 returns c = search laying-done
@@ -54,15 +50,14 @@ laid-spec =
     (tie.spec
     Inv-loop
     μ-loop
+    element-write-starts
     loop-holds
-    slice-aggregate-begun
     begun-requires
-    slice-aggregate-spread
     spread-requires
     add-v
     cast-starts
     mul-starts
-    array-write-starts
+    element-write-starts-2
     loop-less
     loop-again
     returns)

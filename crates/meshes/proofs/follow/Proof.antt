@@ -19,8 +19,8 @@ loop-holds c = search following-start
 mul-if1 : tie.Need-mul-if1 Inv-loop μ-loop
 mul-if1 c = search needs
 
-slice-read-if1 : tie.Need-slice-read-if1 Inv-loop μ-loop
-slice-read-if1 c = search needs
+element-copy-out-if1 : tie.Need-element-copy-out-if1 Inv-loop μ-loop
+element-copy-out-if1 c = search needs
 
 cast-mesh : tie.Need-cast-mesh Inv-loop μ-loop
 cast-mesh c = search needs
@@ -28,14 +28,14 @@ cast-mesh c = search needs
 mul-mesh : tie.Need-mul-mesh Inv-loop μ-loop
 mul-mesh c = search needs
 
-slice-write-mesh : tie.Need-slice-write-mesh Inv-loop μ-loop
-slice-write-mesh c = search needs
+element-write-mesh : tie.Need-element-write-mesh Inv-loop μ-loop
+element-write-mesh c = search needs
 
 mul-wide : tie.Need-mul-wide Inv-loop μ-loop
 mul-wide c = search needs
 
-shared-slice-read-wide : tie.Need-shared-slice-read-wide Inv-loop μ-loop
-shared-slice-read-wide c = search needs
+element-copy-out-wide : tie.Need-element-copy-out-wide Inv-loop μ-loop
+element-copy-out-wide c = search needs
 
 wide-requires : tie.Need-wide-requires Inv-loop μ-loop
 wide-requires c κs = search needs
@@ -45,9 +45,6 @@ loop-less c = search following-less
 
 loop-again : tie.Need-loop-again Inv-loop μ-loop
 loop-again c = search following-more
-
-same-length : tie.Need-same-length Inv-loop μ-loop
-same-length c = search needs
 
 returns : tie.Need-returns Inv-loop μ-loop
 returns c = search following-done
@@ -60,14 +57,13 @@ follow-spec =
     μ-loop
     loop-holds
     mul-if1
-    slice-read-if1
+    element-copy-out-if1
     cast-mesh
     mul-mesh
-    slice-write-mesh
+    element-write-mesh
     mul-wide
-    shared-slice-read-wide
+    element-copy-out-wide
     wide-requires
     loop-less
     loop-again
-    same-length
     returns)

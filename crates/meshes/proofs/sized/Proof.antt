@@ -1,7 +1,6 @@
 -- The lines below k are counted.
 use Prim.Native.Nat.{_-_}
-use native.Mathlib.Omega.{arith}
-use Rattle.meshes.proofs.Sizing.{Sizing, sizing-start, sizing-forth, sizing-room, sizing-back, sizing-room-back, sizing-same, sizing-two, sizing-done}
+use Rattle.meshes.proofs.Sizing.{Sizing, sizing-start, sizing-forth, sizing-add, sizing-back, sizing-add-back, sizing-same, sizing-two, sizing-done}
 use borrow.Author.Needs.{needs}
 use Rattle.meshes.proofs.sized.Statement.{statement}
 use Rattle.meshes.proofs.sized.Tie as tie
@@ -24,8 +23,8 @@ mul-wide c = search needs
 mul-wide-2 : tie.Need-mul-wide-2 Inv-loop μ-loop
 mul-wide-2 c = search needs
 
-shared-slice-read-wide : tie.Need-shared-slice-read-wide Inv-loop μ-loop
-shared-slice-read-wide c = search needs
+element-copy-out-wide : tie.Need-element-copy-out-wide Inv-loop μ-loop
+element-copy-out-wide c = search needs
 
 wide-requires : tie.Need-wide-requires Inv-loop μ-loop
 wide-requires c κs = search needs
@@ -39,8 +38,8 @@ add-wide c = search needs
 mul-wide-4 : tie.Need-mul-wide-4 Inv-loop μ-loop
 mul-wide-4 c = search needs
 
-shared-slice-read-wide-2 : tie.Need-shared-slice-read-wide-2 Inv-loop μ-loop
-shared-slice-read-wide-2 c = search needs
+element-copy-out-wide-2 : tie.Need-element-copy-out-wide-2 Inv-loop μ-loop
+element-copy-out-wide-2 c = search needs
 
 wide-requires-2 : tie.Need-wide-requires-2 Inv-loop μ-loop
 wide-requires-2 c κs = search needs
@@ -48,38 +47,32 @@ wide-requires-2 c κs = search needs
 mul-sizes : tie.Need-mul-sizes Inv-loop μ-loop
 mul-sizes c = search needs
 
-array-read-sizes : tie.Need-array-read-sizes Inv-loop μ-loop
-array-read-sizes c = search sizing-forth
+element-copy-out-sizes : tie.Need-element-copy-out-sizes Inv-loop μ-loop
+element-copy-out-sizes c = search sizing-forth
 
 add-sizes : tie.Need-add-sizes Inv-loop μ-loop
-add-sizes c =
-    let t = c .before .before .before .before in
-    let l = t .before in
-    omega (arith, sizing-room _ _ _ _ (l .loop .inv) (l .before .before .pre) (t .loop-test .taken) _ (c .before .before .wide .ensures))
+add-sizes c = search sizing-add
 
 mul-sizes-2 : tie.Need-mul-sizes-2 Inv-loop μ-loop
 mul-sizes-2 c = search needs
 
-array-write-sizes : tie.Need-array-write-sizes Inv-loop μ-loop
-array-write-sizes c = search sizing-forth
+element-write-sizes : tie.Need-element-write-sizes Inv-loop μ-loop
+element-write-sizes c = search sizing-forth
 
 mul-sizes-3 : tie.Need-mul-sizes-3 Inv-loop μ-loop
 mul-sizes-3 c = search needs
 
-array-read-sizes-2 : tie.Need-array-read-sizes-2 Inv-loop μ-loop
-array-read-sizes-2 c = search sizing-back
+element-copy-out-sizes-2 : tie.Need-element-copy-out-sizes-2 Inv-loop μ-loop
+element-copy-out-sizes-2 c = search sizing-back
 
 add-sizes-2 : tie.Need-add-sizes-2 Inv-loop μ-loop
-add-sizes-2 c =
-    let t = c .before .before .before .before .before in
-    let l = t .before in
-    omega (arith, sizing-room-back _ _ _ _ (l .loop .inv) (l .before .before .pre) (t .loop-test .taken) _ (c .before .before .before .wide .ensures) _ (c .before .wide2 .ensures))
+add-sizes-2 c = search sizing-add-back
 
 mul-sizes-4 : tie.Need-mul-sizes-4 Inv-loop μ-loop
 mul-sizes-4 c = search needs
 
-array-write-sizes-2 : tie.Need-array-write-sizes-2 Inv-loop μ-loop
-array-write-sizes-2 c = search sizing-back
+element-write-sizes-2 : tie.Need-element-write-sizes-2 Inv-loop μ-loop
+element-write-sizes-2 c = search sizing-back
 
 loop-less : tie.Need-loop-less Inv-loop μ-loop
 loop-less c = search needs
@@ -106,23 +99,23 @@ sized-spec =
     add-after
     mul-wide
     mul-wide-2
-    shared-slice-read-wide
+    element-copy-out-wide
     wide-requires
     mul-wide-3
     add-wide
     mul-wide-4
-    shared-slice-read-wide-2
+    element-copy-out-wide-2
     wide-requires-2
     mul-sizes
-    array-read-sizes
+    element-copy-out-sizes
     add-sizes
     mul-sizes-2
-    array-write-sizes
+    element-write-sizes
     mul-sizes-3
-    array-read-sizes-2
+    element-copy-out-sizes-2
     add-sizes-2
     mul-sizes-4
-    array-write-sizes-2
+    element-write-sizes-2
     loop-less
     loop-again
     loop-less-2

@@ -1,6 +1,6 @@
 -- `rank` by its two ways.
-use native.Mathlib.Omega.{arith}
 use Rattle.fans.proofs.Tabulating.{rank-more, rank-one}
+use native.Mathlib.Omega.{arith}
 use borrow.Author.Needs.{needs}
 use Rattle.fans.proofs.nests.rank.Statement.{statement}
 use Rattle.fans.proofs.nests.rank.Tie as tie

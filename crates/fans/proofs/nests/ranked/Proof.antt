@@ -1,34 +1,40 @@
 -- The lines below k have their rank.
-use Prim.Native.Nat.{_-_}
-use Rattle.fans.specs.Nesting.{rank-in}
 use Rattle.fans.proofs.Tabulating.{Tabulating, tabulating-start, tabulating-done, ranking-low, ranking-more}
+use Rattle.fans.specs.Nesting.{rank-in}
+use Prim.Native.Nat.{_-_}
 use borrow.Author.Needs.{needs}
 use Rattle.fans.proofs.nests.ranked.Statement.{statement}
 use Rattle.fans.proofs.nests.ranked.Tie as tie
 
 abbrev Inv-loop : tie.InvT-loop
-Inv-loop lines lows highs ranks₀ k₀ ranks k = Tabulating (rank-in lows highs) lines ranks k
+Inv-loop lines forks ranks₀ k₀ ranks k = Tabulating (rank-in forks) lines ranks k
 
 abbrev μ-loop : tie.MeasureT-loop
-μ-loop lines lows highs ranks₀ k₀ ranks k = lines - k
+μ-loop lines forks ranks₀ k₀ ranks k = lines - k
 
 loop-holds : tie.Need-loop-holds Inv-loop μ-loop
-loop-holds c = tabulating-start _ _
+loop-holds c = tabulating-start _ _ _ (c .pre .1)
+
+add-wide : tie.Need-add-wide Inv-loop μ-loop
+add-wide c = search needs
 
 mul-wide : tie.Need-mul-wide Inv-loop μ-loop
 mul-wide c = search needs
 
-shared-slice-read-wide : tie.Need-shared-slice-read-wide Inv-loop μ-loop
-shared-slice-read-wide c = search needs
+element-copy-out-wide : tie.Need-element-copy-out-wide Inv-loop μ-loop
+element-copy-out-wide c = search needs
 
 wide-requires : tie.Need-wide-requires Inv-loop μ-loop
 wide-requires c κs = search needs
 
+add-wide-2 : tie.Need-add-wide-2 Inv-loop μ-loop
+add-wide-2 c = search needs
+
 mul-wide-2 : tie.Need-mul-wide-2 Inv-loop μ-loop
 mul-wide-2 c = search needs
 
-shared-slice-read-wide-2 : tie.Need-shared-slice-read-wide-2 Inv-loop μ-loop
-shared-slice-read-wide-2 c = search needs
+element-copy-out-wide-2 : tie.Need-element-copy-out-wide-2 Inv-loop μ-loop
+element-copy-out-wide-2 c = search needs
 
 wide-requires-2 : tie.Need-wide-requires-2 Inv-loop μ-loop
 wide-requires-2 c κs = search needs
@@ -42,8 +48,8 @@ cast-ranks c = search needs
 mul-ranks : tie.Need-mul-ranks Inv-loop μ-loop
 mul-ranks c = search needs
 
-array-write-ranks : tie.Need-array-write-ranks Inv-loop μ-loop
-array-write-ranks c = search needs
+element-write-ranks : tie.Need-element-write-ranks Inv-loop μ-loop
+element-write-ranks c = search needs
 
 add-k : tie.Need-add-k Inv-loop μ-loop
 add-k c = search needs
@@ -54,7 +60,7 @@ loop-less c = search needs
 loop-again : tie.Need-loop-again Inv-loop μ-loop
 loop-again c =
     let t = c .before .before .before .before .before in
-    ranking-more _ _ _ (c .before .before .before .before .before .before .before .before .before .pre) _ _ (t .before .loop .inv) (t .loop-test .taken) _ (c .before .before .before .wide .ensures) _ (c .before .wide2 .ensures) _ (c .rank .ensures)
+    ranking-more _ _ (t .before .before .pre .0) _ _ (t .before .loop .inv) (t .loop-test .taken) _ (c .before .before .before .wide .ensures) _ (c .before .wide2 .ensures) _ (c .rank .ensures)
 
 returns : tie.Need-returns Inv-loop μ-loop
 returns c = tabulating-done _ _ _ _ (c .before .loop .inv) (c .loop-test .left)
@@ -66,16 +72,18 @@ ranked-spec =
     Inv-loop
     μ-loop
     loop-holds
+    add-wide
     mul-wide
-    shared-slice-read-wide
+    element-copy-out-wide
     wide-requires
+    add-wide-2
     mul-wide-2
-    shared-slice-read-wide-2
+    element-copy-out-wide-2
     wide-requires-2
     rank-requires
     cast-ranks
     mul-ranks
-    array-write-ranks
+    element-write-ranks
     add-k
     loop-less
     loop-again

@@ -4,17 +4,17 @@ use borrow.Author.Needs.{needs}
 use Rattle.fans.proofs.nests.side.Statement.{statement}
 use Rattle.fans.proofs.nests.side.Tie as tie
 
-shared-slice-read-if1 : tie.Need-shared-slice-read-if1
-shared-slice-read-if1 c = search needs
+add-if1 : tie.Need-add-if1
+add-if1 c = search needs
 
-mul-wide : tie.Need-mul-wide
-mul-wide c = search needs
+mul-if1 : tie.Need-mul-if1
+mul-if1 c = search needs
 
-shared-slice-read-wide : tie.Need-shared-slice-read-wide
-shared-slice-read-wide c = search needs
+element-copy-out-if1 : tie.Need-element-copy-out-if1
+element-copy-out-if1 c = search needs
 
-wide-requires : tie.Need-wide-requires
-wide-requires c κs = search needs
+top-requires : tie.Need-top-requires
+top-requires c κs = search needs
 
 shared-slice-read-result : tie.Need-shared-slice-read-result
 shared-slice-read-result c = search needs
@@ -35,10 +35,10 @@ pub side-spec : {M : Type 1} → statement M
 side-spec =
     tie.close
     (tie.spec
-    shared-slice-read-if1
-    mul-wide
-    shared-slice-read-wide
-    wide-requires
+    add-if1
+    mul-if1
+    element-copy-out-if1
+    top-requires
     shared-slice-read-result
     returns
     returns-2

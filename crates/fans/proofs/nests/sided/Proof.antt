@@ -1,25 +1,25 @@
 -- The lines below k have their side.
-use Prim.Native.Nat.{_-_}
-use Rattle.fans.specs.Nesting.{side-in}
 use Rattle.fans.proofs.Tabulating.{Tabulating, tabulating-start, tabulating-more, tabulating-done}
+use Rattle.fans.specs.Nesting.{side-in}
+use Prim.Native.Nat.{_-_}
 use borrow.Author.Needs.{needs}
 use Rattle.fans.proofs.nests.sided.Statement.{statement}
 use Rattle.fans.proofs.nests.sided.Tie as tie
 
 abbrev Inv-loop : tie.InvT-loop
-Inv-loop lines kinds tops choice sides₀ k₀ sides k = Tabulating (side-in lines kinds tops choice) lines sides k
+Inv-loop lines forks choice sides₀ k₀ sides k = Tabulating (side-in lines forks choice) lines sides k
 
 abbrev μ-loop : tie.MeasureT-loop
-μ-loop lines kinds tops choice sides₀ k₀ sides k = lines - k
+μ-loop lines forks choice sides₀ k₀ sides k = lines - k
 
 loop-holds : tie.Need-loop-holds Inv-loop μ-loop
-loop-holds c = tabulating-start _ _
+loop-holds c = tabulating-start _ _ _ (c .before .pre .1)
 
 side-requires : tie.Need-side-requires Inv-loop μ-loop
 side-requires c κs = search needs
 
-array-write-sides : tie.Need-array-write-sides Inv-loop μ-loop
-array-write-sides c = search needs
+element-write-sides : tie.Need-element-write-sides Inv-loop μ-loop
+element-write-sides c = search needs
 
 add-k : tie.Need-add-k Inv-loop μ-loop
 add-k c = search needs
@@ -41,7 +41,7 @@ sided-spec =
     μ-loop
     loop-holds
     side-requires
-    array-write-sides
+    element-write-sides
     add-k
     loop-less
     loop-again

@@ -15,8 +15,8 @@ abbrev μ-loop : tie.MeasureT-loop
 mul-wide : tie.Need-mul-wide Inv-loop μ-loop
 mul-wide c = search needs
 
-shared-slice-read-wide : tie.Need-shared-slice-read-wide Inv-loop μ-loop
-shared-slice-read-wide c = search needs
+element-copy-out-wide : tie.Need-element-copy-out-wide Inv-loop μ-loop
+element-copy-out-wide c = search needs
 
 wide-requires : tie.Need-wide-requires Inv-loop μ-loop
 wide-requires c κs = search needs
@@ -27,8 +27,8 @@ add-wide c = search needs
 mul-wide-2 : tie.Need-mul-wide-2 Inv-loop μ-loop
 mul-wide-2 c = search needs
 
-shared-slice-read-wide-2 : tie.Need-shared-slice-read-wide-2 Inv-loop μ-loop
-shared-slice-read-wide-2 c = search needs
+element-copy-out-wide-2 : tie.Need-element-copy-out-wide-2 Inv-loop μ-loop
+element-copy-out-wide-2 c = search needs
 
 wide-requires-2 : tie.Need-wide-requires-2 Inv-loop μ-loop
 wide-requires-2 c κs = search needs
@@ -45,8 +45,8 @@ add-wide-2 c = search needs
 mul-wide-3 : tie.Need-mul-wide-3 Inv-loop μ-loop
 mul-wide-3 c = search needs
 
-shared-slice-read-wide-3 : tie.Need-shared-slice-read-wide-3 Inv-loop μ-loop
-shared-slice-read-wide-3 c = search needs
+element-copy-out-wide-3 : tie.Need-element-copy-out-wide-3 Inv-loop μ-loop
+element-copy-out-wide-3 c = search needs
 
 wide-requires-3 : tie.Need-wide-requires-3 Inv-loop μ-loop
 wide-requires-3 c κs = search needs
@@ -60,8 +60,8 @@ add-wide-3 c = search needs
 mul-wide-4 : tie.Need-mul-wide-4 Inv-loop μ-loop
 mul-wide-4 c = search needs
 
-shared-slice-read-wide-4 : tie.Need-shared-slice-read-wide-4 Inv-loop μ-loop
-shared-slice-read-wide-4 c = search needs
+element-copy-out-wide-4 : tie.Need-element-copy-out-wide-4 Inv-loop μ-loop
+element-copy-out-wide-4 c = search needs
 
 wide-requires-4 : tie.Need-wide-requires-4 Inv-loop μ-loop
 wide-requires-4 c κs = search needs
@@ -105,8 +105,8 @@ reversed-requires c κs =
 mul-nexts : tie.Need-mul-nexts Inv-loop μ-loop
 mul-nexts c = search needs
 
-slice-write-nexts : tie.Need-slice-write-nexts Inv-loop μ-loop
-slice-write-nexts c = search needs
+element-write-nexts : tie.Need-element-write-nexts Inv-loop μ-loop
+element-write-nexts c = search needs
 
 add-i : tie.Need-add-i Inv-loop μ-loop
 add-i c = search needs
@@ -123,9 +123,6 @@ loop-again c =
     let l = t .before .loop .inv in
     link-more l (t .loop-test .taken) (q .wide3 .ensures) (p .place-after .ensures) (w .wide4 .ensures) (c .before .way-out2 .ensures) (c .reversed .ensures) (c .before .before .way-out .ensures)
 
-same-length : tie.Need-same-length Inv-loop μ-loop
-same-length c = search needs
-
 returns : tie.Need-returns Inv-loop μ-loop
 returns c = search link-done
 
@@ -136,31 +133,30 @@ link-spec =
     Inv-loop
     μ-loop
     mul-wide
-    shared-slice-read-wide
+    element-copy-out-wide
     wide-requires
     add-wide
     mul-wide-2
-    shared-slice-read-wide-2
+    element-copy-out-wide-2
     wide-requires-2
     sub-count
     loop-holds
     add-wide-2
     mul-wide-3
-    shared-slice-read-wide-3
+    element-copy-out-wide-3
     wide-requires-3
     place-after-requires
     add-wide-3
     mul-wide-4
-    shared-slice-read-wide-4
+    element-copy-out-wide-4
     wide-requires-4
     way-out-requires
     cast-nexts
     way-out-requires-2
     reversed-requires
     mul-nexts
-    slice-write-nexts
+    element-write-nexts
     add-i
     loop-less
     loop-again
-    same-length
     returns)

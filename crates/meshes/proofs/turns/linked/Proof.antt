@@ -14,9 +14,6 @@ abbrev μ-loop : tie.MeasureT-loop
 loop-holds : tie.Need-loop-holds Inv-loop μ-loop
 loop-holds c = search linkeds-start
 
-slice-aggregate-link : tie.Need-slice-aggregate-link Inv-loop μ-loop
-slice-aggregate-link c = search needs
-
 link-requires : tie.Need-link-requires Inv-loop μ-loop
 link-requires c κs = search needs
 
@@ -35,13 +32,4 @@ returns c = search linkeds-done
 pub linked-spec : {M : Type 1} → statement M
 linked-spec =
     tie.close
-    (tie.spec
-    Inv-loop
-    μ-loop
-    loop-holds
-    slice-aggregate-link
-    link-requires
-    add-v
-    loop-less
-    loop-again
-    returns)
+    (tie.spec Inv-loop μ-loop loop-holds link-requires add-v loop-less loop-again returns)
