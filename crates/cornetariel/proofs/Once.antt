@@ -9,7 +9,7 @@ use Rattle.network.specs.Network.{Network, network}
 use Rattle.search.proofs.Calls.{orient-once}
 use Rattle.text.proofs.Calls.{read-once, write-once}
 use Rattle.drawing.proofs.Once.{draw-once}
-use Rattle.listed.proofs.Tight.{BothRinged, first-choice-once, next-choice-once}
+use Rattle.runs.proofs.Tight.{BothRinged, first-choice-once, next-choice-once}
 use Rattle.cornetariel.specs.Face.{unpack, OrientC, FirstC, NextC, DrawC, ReadC, WriteC}
 use Rattle.cornetariel.proofs.Unpacking.{read-out, one-number}
 

@@ -11,6 +11,7 @@ use lib.ListN.{length, take, replicate}
 use lib.Seq.{length-take-le}
 use Rattle.laws.proofs.Filling.{filled-long}
 use Rattle.laws.proofs.Cases.{cases, bool, true-false}
+use Rattle.network.proofs.Sifting.{formed-map}
 use Rattle.network.specs.Network.{network, Connected}
 use Rattle.network.specs.Numbers.{refused, Untouched, oversize, mispaired, Accepted}
 use Rattle.network.specs.declared.Answer.{Answer}
@@ -18,7 +19,7 @@ use Rattle.network.proofs.Checks.{sized}
 use Rattle.text.specs.Text.{vertices-in, lines-in, ends-in, has-form}
 use Rattle.text.specs.Calls.{Read}
 use Rattle.text.proofs.TextBack.{length-ends-in}
-use Rattle.text.proofs.Accepted.{take-filled, not-odd, formed-map, Sound, sound-inside, Accepts, Took, read-done}
+use Rattle.text.proofs.Accepted.{take-filled, not-odd, Sound, sound-inside, Accepts, Took, read-done}
 use Rattle.listing.specs.Page.{answer-line, Shows, Prints}
 use Rattle.listing.specs.Inside.{Put, Showable, Paged}
 use Rattle.listing.proofs.Putting.{answer-long}

@@ -20,8 +20,8 @@ use Rattle.search.specs.Machine.{tree-in}
 use Rattle.search.specs.Orient.{back-lines}
 use Rattle.choice.specs.Choice.{Drawable, Proper}
 use Rattle.choice.specs.Calls.{Chosen, Ringed, FirstChoice}
-use Rattle.listed.proofs.Granted.{fit, granted}
-use Rattle.listed.proofs.Outcomes.{first-says}
+use Rattle.runs.proofs.Granted.{fit, granted}
+use Rattle.runs.proofs.Outcomes.{first-says}
 use Rattle.drawing.specs.Draw.{Draw, cramped-draw, Balanced, Drew, meshes-in}
 use Rattle.cornetariel.proofs.Packing.{backs-few}
 use Rattle.listing.specs.Page.{answer-line, counts-line, ring-page, Sheet, Shows}

@@ -27,7 +27,7 @@ use Rattle.fork.proofs.Rule.{back-of}
 use Rattle.side.specs.Sides.{none}
 use Rattle.choice.specs.Choice.{Proper, Outdone}
 use Rattle.choice.specs.Calls.{Stepped, NextChoice}
-use Rattle.listed.proofs.Outcomes.{next-says}
+use Rattle.runs.proofs.Outcomes.{next-says}
 use Rattle.digits.specs.Digits.{digits}
 use Rattle.listing.specs.Page.{answer-line, side-digits, choice-line, ChoiceLines}
 use Rattle.listing.specs.Inside.{Put, has-side, Listable, PutChoices}

@@ -20,7 +20,7 @@ use Rattle.tree.specs.Returns.{backb}
 use Rattle.fork.proofs.Rule.{back-of}
 use Rattle.choice.specs.Choice.{Proper}
 use Rattle.drawing.proofs.Walked.{at-map}
-use Rattle.listed.proofs.Granted.{properb, proper-yes, proper-agree, proper-of}
+use Rattle.runs.proofs.Granted.{properb, proper-yes, proper-agree, proper-of}
 use Rattle.trials.specs.Tests.{agreeb, beforeb, not-later, scan, everyb, firstb, nextb, lastb}
 
 -- Two choices

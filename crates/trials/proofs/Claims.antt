@@ -26,7 +26,7 @@ use Rattle.trials.specs.Trials.{Claim, back-lines-are, choices-are, next
 use Rattle.trials.specs.Turning.{tripsb}
 use Rattle.trials.specs.Tests.{everyb, firstb, nextb, lastb, roundb}
 use Rattle.trials.proofs.Lists.{numbers, numbers-of, rows, rows-of}
-use Rattle.listed.proofs.Granted.{properb, proper-of}
+use Rattle.runs.proofs.Granted.{properb, proper-of}
 use Rattle.trials.proofs.Choosing.{first-of, next-of, last-of, none-of}
 use Rattle.trials.proofs.Ringing.{round-of, none-legal}
 use Rattle.trials.proofs.Rounds.{these, roundsb, only-ring}

@@ -18,7 +18,7 @@ use Rattle.fork.specs.Fork.{forkb, groupb, sameb, differentb, levelb, wherever,
 use Rattle.fans.specs.Fan.{side-of as line-side, leaving, rank, nested, fan}
 use Rattle.clockwise.specs.Order.{discovered, incoming, beside, clockwise}
 use Rattle.meshes.specs.Meshes.{other-way, leave-by, follow-in, turned, next-direction, mesh-of, mesh-count, borders, mesh-size, mesh-list, size-list}
-use Rattle.listed.proofs.Granted.{properb}
+use Rattle.runs.proofs.Granted.{properb}
 use Rattle.trials.specs.Trials.{side-named, sides, written, directions, Every, Holds}
 use Rattle.trials.specs.Turning.{on-trip, round-trip, outer-mesh, encircles, walked, tripb, tripsb}
 use Rattle.trials.specs.Tests.{agreeb, beforeb, not-later, scan, everyb, firstb, nextb, lastb, constraintb, roundb}

@@ -22,7 +22,7 @@ use Rattle.fork.proofs.Rule.{legal-of, aligned-yes}
 use Rattle.fans.specs.Fan.{side-of as line-side, leaving, rank, nested, fan}
 use Rattle.clockwise.specs.Order.{discovered, incoming, beside, clockwise}
 use Rattle.drawing.specs.Draw.{clockwise-in}
-use Rattle.listed.proofs.Granted.{properb}
+use Rattle.runs.proofs.Granted.{properb}
 use Rattle.trials.specs.Trials.{choices-are, next-is, ring-is, clockwise-is, ends-of, side-named, sides, written, buffer, choice, True}
 use Rattle.trials.specs.Tests.{agreeb, beforeb, not-later, scan, everyb, nextb, constraintb, roundb}
 use Rattle.trials.specs.Table.{K4, K5, K33}

@@ -11,7 +11,7 @@ use Rattle.side.specs.Sides.{left, right, none, same, different}
 use Rattle.tree.specs.Tree.{Tree}
 use Rattle.tree.specs.Returns.{backb}
 use Rattle.fork.specs.Fork.{sameb, differentb}
-use Rattle.listed.proofs.Granted.{properb}
+use Rattle.runs.proofs.Granted.{properb}
 
 -- Two choices: they agree, or the second comes later.
 unfoldable pub agreeb : ℕ → (ℕ → ℕ) → (ℕ → ℕ) → Bool

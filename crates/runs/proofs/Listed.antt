@@ -19,7 +19,7 @@ use Rattle.network.specs.declared.Answer.{Answer}
 use Rattle.network.specs.Numbers.{Accepted}
 use Rattle.tree.specs.Tree.{Tree}
 use Rattle.tree.specs.Returns.{backb}
-use Rattle.tree.proofs.Searched.{Searched}
+use Rattle.tree.specs.Searched.{Searched}
 use Rattle.search.specs.Machine.{tree-in}
 use Rattle.search.proofs.Grows.{tree-searched}
 use Rattle.side.specs.Sides.{none}
@@ -29,12 +29,12 @@ use Rattle.fork.proofs.Choices.{aligned-agree}
 use Rattle.groups.proofs.Ranks.{value}
 use Rattle.choice.specs.Choice.{Drawable, Proper}
 use Rattle.choice.specs.Calls.{Chosen, Ringed, FirstChoice, NextChoice}
-use Rattle.listed.specs.Listing.{Steps, Run, Asked, Complete, Lists}
-use Rattle.listed.proofs.Granted.{fit, properb, proper-of, proper-yes, proper-agree}
-use Rattle.listed.proofs.Outcomes.{first-says, next-outdone, next-last}
-use Rattle.listed.proofs.Stepwise.{with-number, first-zero, steps-listed, buffer, may-begin, may-go-on, may-end}
-use Rattle.listed.proofs.Enumerating.{same-place, listed-rising, listed-once, listed-good, listed-bound, along, along-first, along-next, along-last, along-listed, listing-by-test}
-use Rattle.listed.proofs.Doubling.{free, place-reads, power-of-two, turn-proper, parting-side}
+use Rattle.runs.specs.Listing.{Steps, Run, Asked, Complete, Lists}
+use Rattle.runs.proofs.Granted.{fit, properb, proper-of, proper-yes, proper-agree}
+use Rattle.runs.proofs.Outcomes.{first-says, next-outdone, next-last}
+use Rattle.runs.proofs.Stepwise.{with-number, first-zero, steps-listed, buffer, may-begin, may-go-on, may-end}
+use Rattle.runs.proofs.Enumerating.{same-place, listed-rising, listed-once, listed-good, listed-bound, along, along-first, along-next, along-last, along-listed, listing-by-test}
+use Rattle.runs.proofs.Doubling.{free, place-reads, power-of-two, turn-proper, parting-side}
 
 -- Where a choice is legal there is a proper one: the aligned one, with no side at tree lines.
 

@@ -35,7 +35,7 @@ use Rattle.choice.specs.Choice.{Drawable, Proper, Outdone}
 use Rattle.choice.specs.Calls.{FirstChoice, cramped-first, Chosen, Ringed, NextChoice, cramped-next, Stepped}
 use Rattle.clockwise.specs.Order.{order-at, flat}
 use Rattle.drawing.specs.Draw.{Draw, clockwise-in, cramped-draw, Balanced, Drew}
-use Rattle.listed.proofs.Swapped.{SameLine, Swapped, line-back, joins-same, connected-same, finished-same, tree-same}
+use Rattle.runs.proofs.Swapped.{SameLine, Swapped, line-back, joins-same, connected-same, finished-same, tree-same}
 
 -- Checks
 

@@ -25,10 +25,10 @@ use Rattle.side.specs.Sides.{none}
 use Rattle.fork.proofs.Rule.{back-of}
 use Rattle.choice.specs.Choice.{Drawable, Proper}
 use Rattle.choice.specs.Calls.{Chosen, Ringed, FirstChoice, NextChoice}
-use Rattle.listed.specs.Listing.{Run}
-use Rattle.listed.proofs.Granted.{fit}
-use Rattle.listed.proofs.Outcomes.{first-says, next-last}
-use Rattle.listed.proofs.Listed.{every-run-is-complete}
+use Rattle.runs.specs.Listing.{Run}
+use Rattle.runs.proofs.Granted.{fit}
+use Rattle.runs.proofs.Outcomes.{first-says, next-last}
+use Rattle.runs.proofs.Listed.{every-run-is-complete}
 
 module _ (n : ℕ) (ends : List ℕ) (a : Accepted n ends) (no-backs : back-lines (network n ends) ≡ 0) where
   abbrev S : Tree

@@ -20,10 +20,10 @@ use Rattle.search.specs.Machine.{tree-in}
 use Rattle.search.specs.Orient.{back-lines}
 use Rattle.choice.specs.Choice.{Drawable, Proper, Outdone}
 use Rattle.choice.specs.Calls.{cramped-first, Chosen, Ringed, FirstChoice, cramped-next, Stepped, NextChoice}
-use Rattle.listed.specs.Listing.{FirstSays, NextSays, Steps}
-use Rattle.listed.proofs.Granted.{passed, proper-agree}
-use Rattle.listed.proofs.Outcomes.{first-by, next-by, next-nine-by}
-use Rattle.listed.proofs.Enumerating.{next-agree}
+use Rattle.runs.specs.Listing.{FirstSays, NextSays, Steps}
+use Rattle.runs.proofs.Granted.{passed, proper-agree}
+use Rattle.runs.proofs.Outcomes.{first-by, next-by, next-nine-by}
+use Rattle.runs.proofs.Enumerating.{next-agree}
 
 -- What the calls leave
 

@@ -22,7 +22,7 @@ use Rattle.tree.specs.Words.{BackLine}
 use Rattle.fork.proofs.Rule.{back-of}
 use Rattle.groups.proofs.Ranks.{value, value-none, value-lead, value-rest, value-agree, Led, up, by-rank}
 use Rattle.choice.specs.Choice.{Proper}
-use Rattle.listed.proofs.Enumerating.{same-place, listed-good, along, along-listed, listed-bound}
+use Rattle.runs.proofs.Enumerating.{same-place, listed-good, along, along-listed, listed-bound}
 
 -- c, turned over wherever d and e part
 unfoldable pub turn : (ℕ → ℕ) → (ℕ → ℕ) → (ℕ → ℕ) → ℕ → ℕ

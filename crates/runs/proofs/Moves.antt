@@ -14,7 +14,7 @@ use Rattle.network.specs.Numbers.{Untouched, Accepted}
 use Rattle.search.specs.Machine.{tree-in}
 use Rattle.choice.specs.Choice.{Proper, Outdone}
 use Rattle.choice.specs.Calls.{NextChoice, Stepped}
-use Rattle.listed.proofs.Outcomes.{next-says}
+use Rattle.runs.proofs.Outcomes.{next-says}
 
 pub not-unmoved : (n : ℕ) (ends choice : List ℕ) (a : Accepted n ends) (bytes : length ends / 2 ≤ length choice) (r : Answer) → NextChoice n ends choice r choice → r .number ≡ 0 → ⊥
 not-unmoved n ends choice a bytes r x z = go (next-says n ends a choice bytes r choice x)

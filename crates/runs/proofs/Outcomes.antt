@@ -11,7 +11,7 @@ use Rattle.network.specs.Numbers.{Untouched, triple, Accepted}
 use Rattle.search.specs.Machine.{tree-in}
 use Rattle.choice.specs.Choice.{Drawable, Proper, Outdone}
 use Rattle.choice.specs.Calls.{cramped-first, Chosen, Ringed, FirstChoice, cramped-next, Stepped, NextChoice}
-use Rattle.listed.proofs.Granted.{grant, granted, room-first, room-next}
+use Rattle.runs.proofs.Granted.{grant, granted, room-first, room-next}
 
 module _ (n : ℕ) (ends : List ℕ) (a : Accepted n ends) where
   -- First choice
