@@ -2,6 +2,8 @@
 
 #include <stdio.h>
 
+const struct program *const programs[PROGRAMS] = {&ours, &planarity_peer, &planarity_reused, &boost_peer};
+
 static uint16_t order[2 * CORNETARIEL_MAX_LINES];
 /* Of each direction: the one that follows it on its mesh, and whether the count has yet to pass it. Direction d leaves
  * the vertex at place d of the list of ends, and d ^ 1 goes the other way along the line. */
@@ -64,7 +66,7 @@ static int answers(const struct program *program, const struct network *network,
     return complain(program, network, answer == FAILED ? "fails" : answer == FLAT ? "says flat" : "says not flat");
 }
 
-int agrees(const struct program *program, const struct network *network, int expected) {
+static int agrees(const struct program *program, const struct network *network, int expected) {
     if (!answers(program, network, program->test, 0, expected))
         return 0;
     if (expected == NOT_FLAT)
@@ -73,5 +75,13 @@ int agrees(const struct program *program, const struct network *network, int exp
         return 0;
     if (network->vertices + count_meshes(network) != network->lines + 2)
         return complain(program, network, "gives an order that is not flat");
+    return 1;
+}
+
+int all_agree(const struct network *network, int *flat) {
+    *flat = ours.test(ours.build(network));
+    for (int p = 0; p < PROGRAMS; p++)
+        if (!agrees(programs[p], network, *flat))
+            return 0;
     return 1;
 }

@@ -4,8 +4,8 @@
 
 #include "programs.h"
 
-/* Whether a program says of a network what is expected, FLAT or NOT_FLAT, by each work, and gives a flat network an order
- * in which vertices - lines + meshes is 2. Says on standard error where it doesn't. */
-int agrees(const struct program *program, const struct network *network, int expected);
+/* Whether all programs say of a network what ours says of it, which is written to flat, FLAT or NOT_FLAT: by each work, with
+ * an order of a flat network in which vertices - lines + meshes is 2. Says on standard error where one doesn't. */
+int all_agree(const struct network *network, int *flat);
 
 #endif

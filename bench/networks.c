@@ -72,6 +72,46 @@ static void three_hubs(struct network *network) {
     path_and_hubs(network, 3);
 }
 
+/* The half of a broom's vertices that are its stem; the others are leaves at its top. */
+static size_t stem_of(const struct network *network) {
+    return network->vertices / 2;
+}
+
+/* The stem has the lower lines: the search goes up all of it first, and then to each leaf and back. */
+static void stem_and_leaves(struct network *network) {
+    for (size_t v = 1; v < network->vertices; v++)
+        add(network, v < stem_of(network) ? v - 1 : stem_of(network) - 1, v);
+}
+
+/* From each leaf so many lines to the lowest quarter of the stem, or as much higher as the foot is: all are back lines over
+ * most of the stem. Each leaf starts a way of its own down it, so that what one has found out helps the next only if it is
+ * kept on the stem. */
+static void broom_lines(struct network *network, size_t lines, size_t foot) {
+    stem_and_leaves(network);
+    for (size_t leaf = stem_of(network); leaf < network->vertices; leaf++)
+        for (size_t line = 0; line < lines; line++)
+            add(network, leaf, foot + (leaf + line) % (stem_of(network) / 4));
+}
+
+static void broom(struct network *network) {
+    broom_lines(network, 1, 0);
+}
+
+/* Not flat: three leaves that end at the same vertices are a K3,3 with the top and two of these. */
+static void dense_broom(struct network *network) {
+    broom_lines(network, 6, 0);
+}
+
+/* Every second leaf on either side of the stem. Those of a side share the stem out, and two that are next to each other
+ * have a vertex of it in common: about as many lines as a flat broom has room for. */
+static void filled_broom(struct network *network) {
+    size_t stem = stem_of(network), leaves = (network->vertices - stem) / 2;
+    stem_and_leaves(network);
+    for (size_t leaf = 0; leaf < 2 * leaves; leaf++)
+        for (size_t v = leaf / 2 * (stem - 2) / leaves; v <= (leaf / 2 + 1) * (stem - 2) / leaves; v++)
+            add(network, stem + leaf, v);
+}
+
 static void two_parts(struct network *network, size_t first_part, size_t second_part) {
     for (size_t first = 0; first < first_part; first++)
         for (size_t second = 0; second < second_part; second++)
@@ -132,6 +172,14 @@ static void complete(struct network *network) {
     complete_part(network, network->vertices);
 }
 
+/* What is amiss is at the foot of the stem, where searches that work downwards come last. */
+static void broom_on_five(struct network *network) {
+    broom_lines(network, 1, 4);
+    for (size_t first = 0; first < 5; first++)
+        for (size_t second = first + 2; second < 5; second++)
+            add(network, first, second);
+}
+
 static void two_halves(struct network *network) {
     two_parts(network, network->vertices / 2, network->vertices / 2);
 }
@@ -183,6 +231,8 @@ static const struct {
     [GRID] = {"grid", grid, 0},
     [WHEEL] = {"wheel", wheel, 0},
     [TWO_HUBS] = {"path and two hubs", two_hubs, 0},
+    [BROOM] = {"broom", broom, 0},
+    [BROOM_FILLED] = {"broom, filled", filled_broom, 0},
     [BUNDLE] = {"K2,n", bundle, 0},
     [CHORDS] = {"circle with chords", chords, 1},
     [CUT] = {"cut triangulation", cut_triangulation, 1},
@@ -194,12 +244,18 @@ static const struct {
     [STRETCHED_THREES] = {"K3,3 subdivided", stretched_threes, 1},
     [TWISTED_LADDER] = {"twisted ladder", twisted_ladder, 0},
     [THREE_HUBS] = {"path and three hubs", three_hubs, 0},
+    [BROOM_ON_FIVE] = {"broom on K5", broom_on_five, 0},
+    [BROOM_DENSE] = {"broom, dense", dense_broom, 0},
     [GRID_AND_LINE] = {"grid and a line", grid_and_line, 0},
     [CUT_AND_LINE] = {"cut triangulation and a line", cut_and_line, 1},
     [RANDOM_SPARSE] = {"random, sparse", random_sparse, 1},
     [RANDOM_MIDDLE] = {"random", random_middle, 1},
     [RANDOM_DENSE] = {"random, dense", random_dense, 1},
 };
+
+int is_random(enum shape shape) {
+    return rules[shape].renumbered;
+}
 
 void make_network(struct network *network, enum shape shape, size_t vertices, uint64_t seed) {
     start_random(seed);

@@ -18,6 +18,8 @@ enum shape {
     GRID,
     WHEEL,
     TWO_HUBS,
+    BROOM,
+    BROOM_FILLED,
     BUNDLE,
     CHORDS,
     CUT,
@@ -30,6 +32,8 @@ enum shape {
     STRETCHED_THREES,
     TWISTED_LADDER,
     THREE_HUBS,
+    BROOM_ON_FIVE,
+    BROOM_DENSE,
     GRID_AND_LINE,
     CUT_AND_LINE,
     RANDOM_SPARSE,
@@ -37,6 +41,9 @@ enum shape {
     RANDOM_DENSE,
     SHAPES
 };
+
+/* Whether chance has a part in a shape, so that another seed gives another network. */
+int is_random(enum shape shape);
 
 /* Makes the network of a shape with so many vertices. Where the shape has rows, that has to be a power of two. */
 void make_network(struct network *network, enum shape shape, size_t vertices, uint64_t seed);

@@ -26,7 +26,11 @@ struct program {
     void (*release)(void *built);
 };
 
-extern const struct program ours, planarity_peer, boost_peer;
+extern const struct program ours, planarity_peer, planarity_reused, boost_peer;
+
+/* All of them. */
+enum { OURS, PLANARITY, REUSED, BOOST, PROGRAMS };
+extern const struct program *const programs[PROGRAMS];
 
 #ifdef __cplusplus
 }

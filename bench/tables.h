@@ -19,7 +19,8 @@ enum { WARMING = 3 };
 /* Ours and the peers on each network. Nonzero where they disagree or fail. */
 int compare(const struct plan *plan);
 
-/* Each of our six calls on networks of 64, 128, 256 and 512 vertices. Nonzero where a call fails. */
+/* Each of our six calls on networks of 64, 128, 256 and 512 vertices. Nonzero where the programs disagree or a call
+ * fails. */
 int grow(const struct plan *plan);
 
 #endif
