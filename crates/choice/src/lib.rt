@@ -42,7 +42,7 @@ pub fn first(
         return Answer::refused(3);
     }
     let mut groups = [0u16; 8192];
-    let start = gather(vertices, ends, &mut groups);
+    let start = group_alone(vertices, ends, &mut groups);
     let number = start.number;
     if number != 0 {
         return Answer::refused(number);
@@ -79,7 +79,7 @@ pub fn next(vertices: usize, ends: &[u16], choice: &mut [u8]) -> Answer
         return Answer::refused(3);
     }
     let mut groups = [0u16; 8192];
-    let start = gather(vertices, ends, &mut groups);
+    let start = group_alone(vertices, ends, &mut groups);
     let number = start.number;
     if number != 0 {
         return Answer::refused(number);
@@ -98,7 +98,7 @@ pub fn next(vertices: usize, ends: &[u16], choice: &mut [u8]) -> Answer
 }
 
 // Groups the back lines, and keeps the other tables to itself.
-fn gather(vertices: usize, ends: &[u16], groups: &mut [u16; 8192]) -> Beginning
+fn group_alone(vertices: usize, ends: &[u16], groups: &mut [u16; 8192]) -> Beginning
     requires { ⌜ Pointing (now groups) ⌝ }
     ensures { λ r. ⌜ Gathered vertices (now (ends .entry)) (r .number) (now (groups .exit)) (r .tie) ⌝ }
 {

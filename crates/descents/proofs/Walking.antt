@@ -18,6 +18,7 @@ use Rattle.groups.specs.Groups.{pointed}
 use Rattle.links.specs.Inside.{Sound, Outcome, obeyed, unkept}
 use Rattle.links.specs.declared.Tie.{Tie}
 use Rattle.links.specs.declared.Tie.the-variants.{Holds, Tears}
+use Rattle.links.proofs.Outcomes.{holds-of}
 use Rattle.spans.specs.Inside.{Lowerable, Lowered}
 use Rattle.spans.proofs.Buckets.{spans-chainable}
 use Rattle.spans.proofs.Knowing.{new-unheld}
@@ -89,10 +90,7 @@ module _ {S : Tree} {vertices lines : ℕ} {heights parents forks g : List ℕ} 
 
       module _ (e : q ≡ Holds) where
         risen : Sound S g′ × Risen S bottoms g′
-        risen = go (rw e at o)
-          where
-            go : Outcome S g g′ (Risen S bottoms g′) Holds → Sound S g′ × Risen S bottoms g′
-            go (obeyed s n r) = (s, r)
+        risen = let q = holds-of o e in (q .0, q .2)
 
         pub walk-bottomed : Bottomed S vertices heights parents bottoms forks
         walk-bottomed =

@@ -68,7 +68,7 @@ fn walk(
         Tie::Holds => {}
         Tie::Tears(b, d, kind) => return Tie::Tears(b, d, kind),
     }
-    lows::lows(vertices, heights, parents, &bottoms, forks);
+    lows::measure(vertices, heights, parents, &bottoms, forks);
     lows::rivals(vertices, lines, heights, parents, forks, &mut jumps);
     falling::fall(
         vertices,

@@ -19,7 +19,7 @@ use Rattle.fork.proofs.Ends.{top-back}
 use Rattle.fork.proofs.Found.{way-high, way-low}
 use Rattle.fork.proofs.Links.{low-back, high-back}
 use Rattle.groups.specs.Groups.{pointed}
-use Rattle.links.specs.Inside.{Closed, Sound, StillClosed, Outcome, obeyed, unkept}
+use Rattle.links.specs.Inside.{Closed, Sound, StillClosed, Outcome, obeyed}
 use Rattle.links.specs.declared.Tie.{Tie}
 use Rattle.links.specs.declared.Tie.the-variants.{Holds}
 use Rattle.links.proofs.Closing.{closed-same, closed-after}
@@ -28,17 +28,6 @@ use Rattle.meeting.specs.Inside.{Arriving, Meeting, Met-apart}
 use Rattle.falling.specs.Down.{Overtook, Midway, Coming, Sinking, Landing, Passed, Extended, Placed, Lengthened}
 use Rattle.falling.proofs.Moving.{state-tied, state-moved}
 use Rattle.falling.proofs.Stretching.{topped, jump-lower, state-extended}
-
--- what comes after links that are obeyed
-pub outcome-after : {S : Tree} {g h i : List ℕ} {done wanted : Type 0} {r : Tie} → Outcome S g h done Holds → Outcome S h i wanted r → Outcome S g i wanted r
-outcome-after (obeyed s on d) (unkept z k) = unkept z k
-outcome-after {S} {g} {h} {i} (obeyed s on d) (obeyed z n k) = obeyed z (closed-after S g h i on n) k
-
-pub holds-of : {S : Tree} {g h : List ℕ} {done : Type 0} {q : Tie} → Outcome S g h done q → q ≡ Holds → Sound S h × StillClosed S g h × done
-holds-of {S} {g} {h} {done} o e = go (rw e at o)
-  where
-    go : Outcome S g h done Holds → Sound S h × StillClosed S g h × done
-    go (obeyed s on d) = (s, on, d)
 
 -- A back line at its fork
 

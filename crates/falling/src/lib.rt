@@ -96,14 +96,14 @@ fn come_down(
         (Midway S x (suc b) 512 (suc b) (now (jumps .exit)) (now (pairs .exit)) (now (forks .exit)) (now (groups .exit))) r) ⌝ }
 {
     match meet(b, x, x, source(forks, b), forks, pairs, groups) {
-        Tie::Holds => sink(b, x, heights, parents, jumps, pairs, forks, groups),
+        Tie::Holds => go_down(b, x, heights, parents, jumps, pairs, forks, groups),
         Tie::Tears(c, d, kind) => Tie::Tears(c, d, kind),
     }
 }
 
 // It passes the tree lines on its way, jump by jump. The jump from its source goes on to where it stops; and from the fifth on the jump before each goes on
 // over that one too, so that long ways get short.
-fn sink(
+fn go_down(
     b: usize,
     x: u16,
     heights: &[u16; 512],

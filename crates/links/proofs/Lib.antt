@@ -1,2 +1,3 @@
 pub mod Closing
 pub mod Tying
+pub mod Outcomes

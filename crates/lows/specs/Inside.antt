@@ -11,7 +11,7 @@ use Rattle.fork.specs.Inside.{Finished, Heights, Parents, Spans, Lows}
 use Rattle.spans.specs.Inside.{Unlowed, Untopped, Below, Least, Unheld}
 use Rattle.rising.specs.Inside.{Bottoms}
 
--- What `lows` goes by, and what it leaves.
+-- What `measure` goes by, and what it leaves.
 pub record Bottomed (S : Tree) (vertices : ℕ) (heights parents bottoms forks : List ℕ) : Type 0 where
   pub same-vertices : S .vertices ≡ vertices
   pub finished : Finished S

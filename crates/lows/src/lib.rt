@@ -13,7 +13,7 @@ use spans::columns::LEAST;
 use spans::columns::onward;
 
 // The low of each tree line: where its bottom ends, or where it has none, the height of the vertex that it leaves. (A back line has its own already.)
-pub fn lows(
+pub fn measure(
     vertices: usize,
     heights: &[u16; 512],
     parents: &[u16; 512],

@@ -21,6 +21,7 @@ use Rattle.links.specs.Inside.{Closed, Sound, StillClosed, Outcome, obeyed, unk
 use Rattle.links.specs.declared.Tie.{Tie}
 use Rattle.links.specs.declared.Tie.the-variants.{Holds, Tears}
 use Rattle.links.proofs.Closing.{closed-turned, closed-odd, closed-same, closed-after}
+use Rattle.links.proofs.Outcomes.{torn}
 use Rattle.meeting.specs.Inside.{Met, KeptLine, TwoLeast, none, one, two, Meeting, Met-apart}
 use Rattle.meeting.specs.Facing.{Facing, Parted, Second-parted}
 use Rattle.meeting.proofs.Staying.{apart-onward}
@@ -35,13 +36,6 @@ module _ {S : Tree} where
   -- (X3) a back line met before overlaps nothing met later: it ends at one height, and no later line ends higher
   pub back-overlaps-none : {c e : ℕ} → Searched S → BackLine S c → high S e ≤ end S c → Overlap S c e → ⊥
   back-overlaps-none {c} X l h o = omega (arith, o .under, low-back S X c l)
-
--- a link that can't be obeyed stays so, whatever else was to be done
-pub torn : {S : Tree} {g h i : List ℕ} {done wanted : Type 0} {q : Tie} {c d k : ℕ} → Outcome S g h done q → q ≡ Tears c d k → Outcome S i h wanted (Tears c d k)
-torn {S} {g} {h} {i} {done} {wanted} {q} {c} {d} {k} o e = go (rw e at o)
-  where
-    go : Outcome S g h done (Tears c d k) → Outcome S i h wanted (Tears c d k)
-    go (unkept s u) = unkept s u
 
 -- What was met before a line arrives
 

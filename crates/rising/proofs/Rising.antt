@@ -11,10 +11,11 @@ use Rattle.tree.specs.Tree.{Tree}
 use Rattle.tree.specs.Returns.{end}
 use Rattle.tree.specs.Words.{BackLine}
 use Rattle.tree.specs.Searched.{Searched}
-use Rattle.links.specs.Inside.{Sound, StillClosed, Outcome, obeyed, unkept}
+use Rattle.links.specs.Inside.{Sound, StillClosed, Outcome, obeyed}
 use Rattle.links.specs.declared.Tie.{Tie}
 use Rattle.links.specs.declared.Tie.the-variants.{Holds, Tears}
 use Rattle.links.proofs.Closing.{closed-same, closed-after}
+use Rattle.links.proofs.Outcomes.{torn}
 use Rattle.spans.proofs.Buckets.{chain-line, chain-between, last-empty}
 use Rattle.rising.specs.Inside.{Rising, Risen, RisesBefore, Raised, Settleable}
 
@@ -175,10 +176,7 @@ module _ {S : Tree} {vertices : ℕ} {heights jumps heads nexts forks bottoms₀
           module _ {bottoms′ g′ : List ℕ} {r : Tie}
               (settled : Settleable S b heights jumps forks bottoms g → Outcome S g g′ (Raised S (end S b) (b + 1) bottoms′ g′) r) where
             pub rise-torn : {p q k : ℕ} → r ≡ Tears p q k → Outcome S g₀ g′ (Risen S bottoms′ g′) (Tears p q k)
-            rise-torn {p} {q} {k} e = go (rw e at (settled rise-settleable))
-              where
-                go : Outcome S g g′ (Raised S (end S b) (b + 1) bottoms′ g′) (Tears p q k) → Outcome S g₀ g′ (Risen S bottoms′ g′) (Tears p q k)
-                go (unkept sound torn) = unkept sound torn
+            rise-torn e = torn (settled rise-settleable) e
 
             module _ {d : ℕ} (is : (d ≡ at nexts b) × (d < 65536)) where
               follows : Follows (S .lines) (λ j. at forks (2048 + j)) x (b + 1) d

@@ -44,26 +44,26 @@ refused-requires-5 c κs = search needs
 returns-5 : tie.Need-returns-5
 returns-5 c = first-few-kinds _ _ _ _ _ _ (c .before .before .before .before .before .before .before .is-oversize .ensures) (c .before .before .before .before .before .before .if1 .left) _ (c .before .before .before .before .before .is-odd .ensures) (c .before .if5 .taken) _ (c .refused5 .ensures)
 
-gather-requires : tie.Need-gather-requires
-gather-requires c κs = fresh-pointing
+group-alone-requires : tie.Need-group-alone-requires
+group-alone-requires c κs = fresh-pointing
 
 refused-requires-6 : tie.Need-refused-requires-6
 refused-requires-6 c κs = search needs
 
 returns-6 : tie.Need-returns-6
-returns-6 c = let g = c .before .before in first-refused _ _ _ _ _ _ (g .before .before .before .before .before .before .before .before .is-oversize .ensures) (g .before .before .before .before .before .before .before .if1 .left) _ (g .before .before .before .before .before .before .is-odd .ensures) (g .before .before .before .before .before .if2 .left) (g .before .before .before .before .if3 .left) (g .before .before .before .if4 .left) (g .before .before .if5 .left) _ _ _ (g .gather .ensures) (c .before .if6 .taken) _ (c .refused6 .ensures)
+returns-6 c = let g = c .before .before in first-refused _ _ _ _ _ _ (g .before .before .before .before .before .before .before .before .is-oversize .ensures) (g .before .before .before .before .before .before .before .if1 .left) _ (g .before .before .before .before .before .before .is-odd .ensures) (g .before .before .before .before .before .if2 .left) (g .before .before .before .before .if3 .left) (g .before .before .before .if4 .left) (g .before .before .if5 .left) _ _ _ (g .group-alone .ensures) (c .before .if6 .taken) _ (c .refused6 .ensures)
 
 enum-told : tie.Need-enum-told
 enum-told c = search needs
 
 first-requires : tie.Need-first-requires
-first-requires c κs = let g = c .before .before .before .before .before in gathered-reading _ _ _ _ _ (g .gather .ensures) (c .before .before .before .before .if6 .left) (c .before .before .enum-told .given .1) _ (g .before .before .before .before .if3 .left)
+first-requires c κs = let g = c .before .before .before .before .before in gathered-reading _ _ _ _ _ (g .group-alone .ensures) (c .before .before .before .before .if6 .left) (c .before .before .enum-told .given .1) _ (g .before .before .before .before .if3 .left)
 
 add-done : tie.Need-add-done
 add-done c = search needs
 
 sub-done : tie.Need-sub-done
-sub-done c = let g = c .before .before .before .before .before .before .before .before in faultless-fits _ _ _ (g .gather .ensures .fault) (c .before .before .before .before .before .before .before .if6 .left)
+sub-done c = let g = c .before .before .before .before .before .before .before .before in faultless-fits _ _ _ (g .group-alone .ensures .fault) (c .before .before .before .before .before .before .before .if6 .left)
 
 done-requires : tie.Need-done-requires
 done-requires c κs = search needs
@@ -72,13 +72,13 @@ enum-known-tie : tie.Need-enum-known-tie
 enum-known-tie c = search needs
 
 show-requires : tie.Need-show-requires
-show-requires c κs = let g = c .before .before .before .before .before .before .before in gathered-showing _ _ _ _ _ (g .gather .ensures) (c .before .before .before .before .before .before .if6 .left) (c .before .before .before .before .tie .given .1) _ _ (g .before .before .before .if4 .left) (g .before .before .if5 .left)
+show-requires c κs = let g = c .before .before .before .before .before .before .before in gathered-showing _ _ _ _ _ (g .group-alone .ensures) (c .before .before .before .before .before .before .if6 .left) (c .before .before .before .before .tie .given .1) _ _ (g .before .before .before .if4 .left) (g .before .before .if5 .left)
 
 same-length : tie.Need-same-length
 same-length c = search needs
 
 returns-7 : tie.Need-returns-7
-returns-7 c = let g = c .before .before .before .before .before .before .before .before .before in first-chosen _ _ _ _ _ _ (g .before .before .before .before .before .before .before .before .is-oversize .ensures) (g .before .before .before .before .before .before .before .if1 .left) _ (g .before .before .before .before .before .before .is-odd .ensures) (g .before .before .before .before .before .if2 .left) (g .before .before .before .before .if3 .left) (g .before .before .before .if4 .left) (g .before .before .if5 .left) _ _ _ (g .gather .ensures) (c .before .before .before .before .before .before .before .before .if6 .left) (c .before .before .before .before .before .before .enum-told .given .1) _ _ (c .done .ensures) (c .before .before .before .first .ensures) (omega arith)
+returns-7 c = let g = c .before .before .before .before .before .before .before .before .before in first-chosen _ _ _ _ _ _ (g .before .before .before .before .before .before .before .before .is-oversize .ensures) (g .before .before .before .before .before .before .before .if1 .left) _ (g .before .before .before .before .before .before .is-odd .ensures) (g .before .before .before .before .before .if2 .left) (g .before .before .before .before .if3 .left) (g .before .before .before .if4 .left) (g .before .before .if5 .left) _ _ _ (g .group-alone .ensures) (c .before .before .before .before .before .before .before .before .if6 .left) (c .before .before .before .before .before .before .enum-told .given .1) _ _ (c .done .ensures) (c .before .before .before .first .ensures) (omega arith)
 
 same-length-2 : tie.Need-same-length-2
 same-length-2 c = search needs
@@ -87,7 +87,7 @@ same-length-3 : tie.Need-same-length-3
 same-length-3 c = search needs
 
 returns-8 : tie.Need-returns-8
-returns-8 c = let g = c .before .before .before .before .before .before .before .before .before .before .before .before in first-ringed _ _ _ _ _ _ (g .before .before .before .before .before .before .before .before .is-oversize .ensures) (g .before .before .before .before .before .before .before .if1 .left) _ (g .before .before .before .before .before .before .is-odd .ensures) (g .before .before .before .before .before .if2 .left) (g .before .before .before .before .if3 .left) (g .before .before .before .if4 .left) (g .before .before .if5 .left) _ _ _ (g .gather .ensures) (c .before .before .before .before .before .before .before .before .before .before .before .if6 .left) (c .before .before .before .before .before .before .before .before .before .tie .given .1) _ _ _ _ refl (c .before .before .before .before .show .ensures) (omega arith) (omega arith)
+returns-8 c = let g = c .before .before .before .before .before .before .before .before .before .before .before .before in first-ringed _ _ _ _ _ _ (g .before .before .before .before .before .before .before .before .is-oversize .ensures) (g .before .before .before .before .before .before .before .if1 .left) _ (g .before .before .before .before .before .before .is-odd .ensures) (g .before .before .before .before .before .if2 .left) (g .before .before .before .before .if3 .left) (g .before .before .before .if4 .left) (g .before .before .if5 .left) _ _ _ (g .group-alone .ensures) (c .before .before .before .before .before .before .before .before .before .before .before .if6 .left) (c .before .before .before .before .before .before .before .before .before .tie .given .1) _ _ _ _ refl (c .before .before .before .before .show .ensures) (omega arith) (omega arith)
 
 pub first-spec : {M : Type 1} → statement M
 first-spec =
@@ -105,7 +105,7 @@ first-spec =
     returns-4
     refused-requires-5
     returns-5
-    gather-requires
+    group-alone-requires
     refused-requires-6
     returns-6
     enum-told

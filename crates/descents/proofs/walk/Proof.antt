@@ -27,17 +27,17 @@ enum-known-b c = search needs
 returns : tie.Need-returns
 returns c = λ S w. walk-torn w (c .before .before .before .before .before .before .before .before .before .before .before .before .before .chain .ensures) (c .before .before .before .before .before .before .before .before .before .before .lower .ensures S (walk-lowerable w)) (c .before .before .before .rise .ensures S (walk-rising w (c .before .before .before .before .before .before .before .before .before .before .before .before .before .chain .ensures) (c .before .before .before .before .before .before .before .before .before .before .lower .ensures S (walk-lowerable w)))) (c .before .b .given .1)
 
-lows-requires : tie.Need-lows-requires
-lows-requires c κs = record { tree = c .before .before .before .before .before .before .before .before .before .before .before .before .before .before .before .before .before .before .pre .tree; asked = walk-bottomed (c .before .before .before .before .before .before .before .before .before .before .before .before .before .before .before .before .before .before .pre .asked) (c .before .before .before .before .before .before .before .before .before .before .before .before .before .before .chain .ensures) (c .before .before .before .before .before .before .before .before .before .before .before .lower .ensures _ (walk-lowerable (c .before .before .before .before .before .before .before .before .before .before .before .before .before .before .before .before .before .before .pre .asked))) (c .before .before .before .before .rise .ensures _ (walk-rising (c .before .before .before .before .before .before .before .before .before .before .before .before .before .before .before .before .before .before .pre .asked) (c .before .before .before .before .before .before .before .before .before .before .before .before .before .before .chain .ensures) (c .before .before .before .before .before .before .before .before .before .before .before .lower .ensures _ (walk-lowerable (c .before .before .before .before .before .before .before .before .before .before .before .before .before .before .before .before .before .before .pre .asked))))) (c .before .before .enum-told .given .1) }
+measure-requires : tie.Need-measure-requires
+measure-requires c κs = record { tree = c .before .before .before .before .before .before .before .before .before .before .before .before .before .before .before .before .before .before .pre .tree; asked = walk-bottomed (c .before .before .before .before .before .before .before .before .before .before .before .before .before .before .before .before .before .before .pre .asked) (c .before .before .before .before .before .before .before .before .before .before .before .before .before .before .chain .ensures) (c .before .before .before .before .before .before .before .before .before .before .before .lower .ensures _ (walk-lowerable (c .before .before .before .before .before .before .before .before .before .before .before .before .before .before .before .before .before .before .pre .asked))) (c .before .before .before .before .rise .ensures _ (walk-rising (c .before .before .before .before .before .before .before .before .before .before .before .before .before .before .before .before .before .before .pre .asked) (c .before .before .before .before .before .before .before .before .before .before .before .before .before .before .chain .ensures) (c .before .before .before .before .before .before .before .before .before .before .before .lower .ensures _ (walk-lowerable (c .before .before .before .before .before .before .before .before .before .before .before .before .before .before .before .before .before .before .pre .asked))))) (c .before .before .enum-told .given .1) }
 
 rivals-requires : tie.Need-rivals-requires
-rivals-requires c κs = record { tree = c .before .before .before .before .before .before .before .before .before .before .before .before .before .before .before .before .before .before .before .before .before .pre .tree; asked = walk-comparable (c .before .before .before .before .before .before .before .before .before .before .before .before .before .before .before .before .before .before .before .before .before .pre .asked) (c .before .before .before .before .before .before .before .before .before .before .before .before .before .before .before .before .before .chain .ensures) (c .before .before .before .before .before .before .before .before .before .before .before .before .before .before .lower .ensures _ (walk-lowerable (c .before .before .before .before .before .before .before .before .before .before .before .before .before .before .before .before .before .before .before .before .before .pre .asked))) (c .before .before .before .before .before .before .before .rise .ensures _ (walk-rising (c .before .before .before .before .before .before .before .before .before .before .before .before .before .before .before .before .before .before .before .before .before .pre .asked) (c .before .before .before .before .before .before .before .before .before .before .before .before .before .before .before .before .before .chain .ensures) (c .before .before .before .before .before .before .before .before .before .before .before .before .before .before .lower .ensures _ (walk-lowerable (c .before .before .before .before .before .before .before .before .before .before .before .before .before .before .before .before .before .before .before .before .before .pre .asked))))) (c .before .before .before .before .before .enum-told .given .1) (c .before .before .lows .ensures _ (walk-bottomed (c .before .before .before .before .before .before .before .before .before .before .before .before .before .before .before .before .before .before .before .before .before .pre .asked) (c .before .before .before .before .before .before .before .before .before .before .before .before .before .before .before .before .before .chain .ensures) (c .before .before .before .before .before .before .before .before .before .before .before .before .before .before .lower .ensures _ (walk-lowerable (c .before .before .before .before .before .before .before .before .before .before .before .before .before .before .before .before .before .before .before .before .before .pre .asked))) (c .before .before .before .before .before .before .before .rise .ensures _ (walk-rising (c .before .before .before .before .before .before .before .before .before .before .before .before .before .before .before .before .before .before .before .before .before .pre .asked) (c .before .before .before .before .before .before .before .before .before .before .before .before .before .before .before .before .before .chain .ensures) (c .before .before .before .before .before .before .before .before .before .before .before .before .before .before .lower .ensures _ (walk-lowerable (c .before .before .before .before .before .before .before .before .before .before .before .before .before .before .before .before .before .before .before .before .before .pre .asked))))) (c .before .before .before .before .before .enum-told .given .1))) }
+rivals-requires c κs = record { tree = c .before .before .before .before .before .before .before .before .before .before .before .before .before .before .before .before .before .before .before .before .before .pre .tree; asked = walk-comparable (c .before .before .before .before .before .before .before .before .before .before .before .before .before .before .before .before .before .before .before .before .before .pre .asked) (c .before .before .before .before .before .before .before .before .before .before .before .before .before .before .before .before .before .chain .ensures) (c .before .before .before .before .before .before .before .before .before .before .before .before .before .before .lower .ensures _ (walk-lowerable (c .before .before .before .before .before .before .before .before .before .before .before .before .before .before .before .before .before .before .before .before .before .pre .asked))) (c .before .before .before .before .before .before .before .rise .ensures _ (walk-rising (c .before .before .before .before .before .before .before .before .before .before .before .before .before .before .before .before .before .before .before .before .before .pre .asked) (c .before .before .before .before .before .before .before .before .before .before .before .before .before .before .before .before .before .chain .ensures) (c .before .before .before .before .before .before .before .before .before .before .before .before .before .before .lower .ensures _ (walk-lowerable (c .before .before .before .before .before .before .before .before .before .before .before .before .before .before .before .before .before .before .before .before .before .pre .asked))))) (c .before .before .before .before .before .enum-told .given .1) (c .before .before .measure .ensures _ (walk-bottomed (c .before .before .before .before .before .before .before .before .before .before .before .before .before .before .before .before .before .before .before .before .before .pre .asked) (c .before .before .before .before .before .before .before .before .before .before .before .before .before .before .before .before .before .chain .ensures) (c .before .before .before .before .before .before .before .before .before .before .before .before .before .before .lower .ensures _ (walk-lowerable (c .before .before .before .before .before .before .before .before .before .before .before .before .before .before .before .before .before .before .before .before .before .pre .asked))) (c .before .before .before .before .before .before .before .rise .ensures _ (walk-rising (c .before .before .before .before .before .before .before .before .before .before .before .before .before .before .before .before .before .before .before .before .before .pre .asked) (c .before .before .before .before .before .before .before .before .before .before .before .before .before .before .before .before .before .chain .ensures) (c .before .before .before .before .before .before .before .before .before .before .before .before .before .before .lower .ensures _ (walk-lowerable (c .before .before .before .before .before .before .before .before .before .before .before .before .before .before .before .before .before .before .before .before .before .pre .asked))))) (c .before .before .before .before .before .enum-told .given .1))) }
 
 fall-requires : tie.Need-fall-requires
-fall-requires c κs = record { tree = c .before .before .before .before .before .before .before .before .before .before .before .before .before .before .before .before .before .before .before .before .before .before .before .before .before .before .before .pre .tree; asked = walk-falling (c .before .before .before .before .before .before .before .before .before .before .before .before .before .before .before .before .before .before .before .before .before .before .before .before .before .before .before .pre .asked) (c .before .before .before .before .before .before .before .before .before .before .before .before .before .before .before .before .before .before .before .before .before .before .before .chain .ensures) (c .before .before .before .before .before .before .before .before .before .before .before .before .before .before .before .before .before .before .before .before .lower .ensures _ (walk-lowerable (c .before .before .before .before .before .before .before .before .before .before .before .before .before .before .before .before .before .before .before .before .before .before .before .before .before .before .before .pre .asked))) (c .before .before .before .before .before .before .before .before .before .before .before .before .before .rise .ensures _ (walk-rising (c .before .before .before .before .before .before .before .before .before .before .before .before .before .before .before .before .before .before .before .before .before .before .before .before .before .before .before .pre .asked) (c .before .before .before .before .before .before .before .before .before .before .before .before .before .before .before .before .before .before .before .before .before .before .before .chain .ensures) (c .before .before .before .before .before .before .before .before .before .before .before .before .before .before .before .before .before .before .before .before .lower .ensures _ (walk-lowerable (c .before .before .before .before .before .before .before .before .before .before .before .before .before .before .before .before .before .before .before .before .before .before .before .before .before .before .before .pre .asked))))) (c .before .before .before .before .before .before .before .before .before .before .before .enum-told .given .1) (c .before .before .before .before .before .before .before .before .lows .ensures _ (walk-bottomed (c .before .before .before .before .before .before .before .before .before .before .before .before .before .before .before .before .before .before .before .before .before .before .before .before .before .before .before .pre .asked) (c .before .before .before .before .before .before .before .before .before .before .before .before .before .before .before .before .before .before .before .before .before .before .before .chain .ensures) (c .before .before .before .before .before .before .before .before .before .before .before .before .before .before .before .before .before .before .before .before .lower .ensures _ (walk-lowerable (c .before .before .before .before .before .before .before .before .before .before .before .before .before .before .before .before .before .before .before .before .before .before .before .before .before .before .before .pre .asked))) (c .before .before .before .before .before .before .before .before .before .before .before .before .before .rise .ensures _ (walk-rising (c .before .before .before .before .before .before .before .before .before .before .before .before .before .before .before .before .before .before .before .before .before .before .before .before .before .before .before .pre .asked) (c .before .before .before .before .before .before .before .before .before .before .before .before .before .before .before .before .before .before .before .before .before .before .before .chain .ensures) (c .before .before .before .before .before .before .before .before .before .before .before .before .before .before .before .before .before .before .before .before .lower .ensures _ (walk-lowerable (c .before .before .before .before .before .before .before .before .before .before .before .before .before .before .before .before .before .before .before .before .before .before .before .before .before .before .before .pre .asked))))) (c .before .before .before .before .before .before .before .before .before .before .before .enum-told .given .1))) (c .before .before .before .before .before .rivals .ensures _ (walk-comparable (c .before .before .before .before .before .before .before .before .before .before .before .before .before .before .before .before .before .before .before .before .before .before .before .before .before .before .before .pre .asked) (c .before .before .before .before .before .before .before .before .before .before .before .before .before .before .before .before .before .before .before .before .before .before .before .chain .ensures) (c .before .before .before .before .before .before .before .before .before .before .before .before .before .before .before .before .before .before .before .before .lower .ensures _ (walk-lowerable (c .before .before .before .before .before .before .before .before .before .before .before .before .before .before .before .before .before .before .before .before .before .before .before .before .before .before .before .pre .asked))) (c .before .before .before .before .before .before .before .before .before .before .before .before .before .rise .ensures _ (walk-rising (c .before .before .before .before .before .before .before .before .before .before .before .before .before .before .before .before .before .before .before .before .before .before .before .before .before .before .before .pre .asked) (c .before .before .before .before .before .before .before .before .before .before .before .before .before .before .before .before .before .before .before .before .before .before .before .chain .ensures) (c .before .before .before .before .before .before .before .before .before .before .before .before .before .before .before .before .before .before .before .before .lower .ensures _ (walk-lowerable (c .before .before .before .before .before .before .before .before .before .before .before .before .before .before .before .before .before .before .before .before .before .before .before .before .before .before .before .pre .asked))))) (c .before .before .before .before .before .before .before .before .before .before .before .enum-told .given .1) (c .before .before .before .before .before .before .before .before .lows .ensures _ (walk-bottomed (c .before .before .before .before .before .before .before .before .before .before .before .before .before .before .before .before .before .before .before .before .before .before .before .before .before .before .before .pre .asked) (c .before .before .before .before .before .before .before .before .before .before .before .before .before .before .before .before .before .before .before .before .before .before .before .chain .ensures) (c .before .before .before .before .before .before .before .before .before .before .before .before .before .before .before .before .before .before .before .before .lower .ensures _ (walk-lowerable (c .before .before .before .before .before .before .before .before .before .before .before .before .before .before .before .before .before .before .before .before .before .before .before .before .before .before .before .pre .asked))) (c .before .before .before .before .before .before .before .before .before .before .before .before .before .rise .ensures _ (walk-rising (c .before .before .before .before .before .before .before .before .before .before .before .before .before .before .before .before .before .before .before .before .before .before .before .before .before .before .before .pre .asked) (c .before .before .before .before .before .before .before .before .before .before .before .before .before .before .before .before .before .before .before .before .before .before .before .chain .ensures) (c .before .before .before .before .before .before .before .before .before .before .before .before .before .before .before .before .before .before .before .before .lower .ensures _ (walk-lowerable (c .before .before .before .before .before .before .before .before .before .before .before .before .before .before .before .before .before .before .before .before .before .before .before .before .before .before .before .pre .asked))))) (c .before .before .before .before .before .before .before .before .before .before .before .enum-told .given .1))))) }
+fall-requires c κs = record { tree = c .before .before .before .before .before .before .before .before .before .before .before .before .before .before .before .before .before .before .before .before .before .before .before .before .before .before .before .pre .tree; asked = walk-falling (c .before .before .before .before .before .before .before .before .before .before .before .before .before .before .before .before .before .before .before .before .before .before .before .before .before .before .before .pre .asked) (c .before .before .before .before .before .before .before .before .before .before .before .before .before .before .before .before .before .before .before .before .before .before .before .chain .ensures) (c .before .before .before .before .before .before .before .before .before .before .before .before .before .before .before .before .before .before .before .before .lower .ensures _ (walk-lowerable (c .before .before .before .before .before .before .before .before .before .before .before .before .before .before .before .before .before .before .before .before .before .before .before .before .before .before .before .pre .asked))) (c .before .before .before .before .before .before .before .before .before .before .before .before .before .rise .ensures _ (walk-rising (c .before .before .before .before .before .before .before .before .before .before .before .before .before .before .before .before .before .before .before .before .before .before .before .before .before .before .before .pre .asked) (c .before .before .before .before .before .before .before .before .before .before .before .before .before .before .before .before .before .before .before .before .before .before .before .chain .ensures) (c .before .before .before .before .before .before .before .before .before .before .before .before .before .before .before .before .before .before .before .before .lower .ensures _ (walk-lowerable (c .before .before .before .before .before .before .before .before .before .before .before .before .before .before .before .before .before .before .before .before .before .before .before .before .before .before .before .pre .asked))))) (c .before .before .before .before .before .before .before .before .before .before .before .enum-told .given .1) (c .before .before .before .before .before .before .before .before .measure .ensures _ (walk-bottomed (c .before .before .before .before .before .before .before .before .before .before .before .before .before .before .before .before .before .before .before .before .before .before .before .before .before .before .before .pre .asked) (c .before .before .before .before .before .before .before .before .before .before .before .before .before .before .before .before .before .before .before .before .before .before .before .chain .ensures) (c .before .before .before .before .before .before .before .before .before .before .before .before .before .before .before .before .before .before .before .before .lower .ensures _ (walk-lowerable (c .before .before .before .before .before .before .before .before .before .before .before .before .before .before .before .before .before .before .before .before .before .before .before .before .before .before .before .pre .asked))) (c .before .before .before .before .before .before .before .before .before .before .before .before .before .rise .ensures _ (walk-rising (c .before .before .before .before .before .before .before .before .before .before .before .before .before .before .before .before .before .before .before .before .before .before .before .before .before .before .before .pre .asked) (c .before .before .before .before .before .before .before .before .before .before .before .before .before .before .before .before .before .before .before .before .before .before .before .chain .ensures) (c .before .before .before .before .before .before .before .before .before .before .before .before .before .before .before .before .before .before .before .before .lower .ensures _ (walk-lowerable (c .before .before .before .before .before .before .before .before .before .before .before .before .before .before .before .before .before .before .before .before .before .before .before .before .before .before .before .pre .asked))))) (c .before .before .before .before .before .before .before .before .before .before .before .enum-told .given .1))) (c .before .before .before .before .before .rivals .ensures _ (walk-comparable (c .before .before .before .before .before .before .before .before .before .before .before .before .before .before .before .before .before .before .before .before .before .before .before .before .before .before .before .pre .asked) (c .before .before .before .before .before .before .before .before .before .before .before .before .before .before .before .before .before .before .before .before .before .before .before .chain .ensures) (c .before .before .before .before .before .before .before .before .before .before .before .before .before .before .before .before .before .before .before .before .lower .ensures _ (walk-lowerable (c .before .before .before .before .before .before .before .before .before .before .before .before .before .before .before .before .before .before .before .before .before .before .before .before .before .before .before .pre .asked))) (c .before .before .before .before .before .before .before .before .before .before .before .before .before .rise .ensures _ (walk-rising (c .before .before .before .before .before .before .before .before .before .before .before .before .before .before .before .before .before .before .before .before .before .before .before .before .before .before .before .pre .asked) (c .before .before .before .before .before .before .before .before .before .before .before .before .before .before .before .before .before .before .before .before .before .before .before .chain .ensures) (c .before .before .before .before .before .before .before .before .before .before .before .before .before .before .before .before .before .before .before .before .lower .ensures _ (walk-lowerable (c .before .before .before .before .before .before .before .before .before .before .before .before .before .before .before .before .before .before .before .before .before .before .before .before .before .before .before .pre .asked))))) (c .before .before .before .before .before .before .before .before .before .before .before .enum-told .given .1) (c .before .before .before .before .before .before .before .before .measure .ensures _ (walk-bottomed (c .before .before .before .before .before .before .before .before .before .before .before .before .before .before .before .before .before .before .before .before .before .before .before .before .before .before .before .pre .asked) (c .before .before .before .before .before .before .before .before .before .before .before .before .before .before .before .before .before .before .before .before .before .before .before .chain .ensures) (c .before .before .before .before .before .before .before .before .before .before .before .before .before .before .before .before .before .before .before .before .lower .ensures _ (walk-lowerable (c .before .before .before .before .before .before .before .before .before .before .before .before .before .before .before .before .before .before .before .before .before .before .before .before .before .before .before .pre .asked))) (c .before .before .before .before .before .before .before .before .before .before .before .before .before .rise .ensures _ (walk-rising (c .before .before .before .before .before .before .before .before .before .before .before .before .before .before .before .before .before .before .before .before .before .before .before .before .before .before .before .pre .asked) (c .before .before .before .before .before .before .before .before .before .before .before .before .before .before .before .before .before .before .before .before .before .before .before .chain .ensures) (c .before .before .before .before .before .before .before .before .before .before .before .before .before .before .before .before .before .before .before .before .lower .ensures _ (walk-lowerable (c .before .before .before .before .before .before .before .before .before .before .before .before .before .before .before .before .before .before .before .before .before .before .before .before .before .before .before .pre .asked))))) (c .before .before .before .before .before .before .before .before .before .before .before .enum-told .given .1))))) }
 
 returns-2 : tie.Need-returns-2
-returns-2 c = λ S w. walk-done w (c .before .before .before .before .before .before .before .before .before .before .before .before .before .before .before .before .before .before .before .before .before .before .before .before .chain .ensures) (c .before .before .before .before .before .before .before .before .before .before .before .before .before .before .before .before .before .before .before .before .before .lower .ensures S (walk-lowerable w)) (c .before .before .before .before .before .before .before .before .before .before .before .before .before .before .rise .ensures S (walk-rising w (c .before .before .before .before .before .before .before .before .before .before .before .before .before .before .before .before .before .before .before .before .before .before .before .before .chain .ensures) (c .before .before .before .before .before .before .before .before .before .before .before .before .before .before .before .before .before .before .before .before .before .lower .ensures S (walk-lowerable w)))) (c .before .before .before .before .before .before .before .before .before .before .before .before .enum-told .given .1) (c .before .before .before .before .before .before .before .before .before .lows .ensures S (walk-bottomed w (c .before .before .before .before .before .before .before .before .before .before .before .before .before .before .before .before .before .before .before .before .before .before .before .before .chain .ensures) (c .before .before .before .before .before .before .before .before .before .before .before .before .before .before .before .before .before .before .before .before .before .lower .ensures S (walk-lowerable w)) (c .before .before .before .before .before .before .before .before .before .before .before .before .before .before .rise .ensures S (walk-rising w (c .before .before .before .before .before .before .before .before .before .before .before .before .before .before .before .before .before .before .before .before .before .before .before .before .chain .ensures) (c .before .before .before .before .before .before .before .before .before .before .before .before .before .before .before .before .before .before .before .before .before .lower .ensures S (walk-lowerable w)))) (c .before .before .before .before .before .before .before .before .before .before .before .before .enum-told .given .1))) (c .before .before .before .before .before .before .rivals .ensures S (walk-comparable w (c .before .before .before .before .before .before .before .before .before .before .before .before .before .before .before .before .before .before .before .before .before .before .before .before .chain .ensures) (c .before .before .before .before .before .before .before .before .before .before .before .before .before .before .before .before .before .before .before .before .before .lower .ensures S (walk-lowerable w)) (c .before .before .before .before .before .before .before .before .before .before .before .before .before .before .rise .ensures S (walk-rising w (c .before .before .before .before .before .before .before .before .before .before .before .before .before .before .before .before .before .before .before .before .before .before .before .before .chain .ensures) (c .before .before .before .before .before .before .before .before .before .before .before .before .before .before .before .before .before .before .before .before .before .lower .ensures S (walk-lowerable w)))) (c .before .before .before .before .before .before .before .before .before .before .before .before .enum-told .given .1) (c .before .before .before .before .before .before .before .before .before .lows .ensures S (walk-bottomed w (c .before .before .before .before .before .before .before .before .before .before .before .before .before .before .before .before .before .before .before .before .before .before .before .before .chain .ensures) (c .before .before .before .before .before .before .before .before .before .before .before .before .before .before .before .before .before .before .before .before .before .lower .ensures S (walk-lowerable w)) (c .before .before .before .before .before .before .before .before .before .before .before .before .before .before .rise .ensures S (walk-rising w (c .before .before .before .before .before .before .before .before .before .before .before .before .before .before .before .before .before .before .before .before .before .before .before .before .chain .ensures) (c .before .before .before .before .before .before .before .before .before .before .before .before .before .before .before .before .before .before .before .before .before .lower .ensures S (walk-lowerable w)))) (c .before .before .before .before .before .before .before .before .before .before .before .before .enum-told .given .1))))) (c .fall .ensures S (walk-falling w (c .before .before .before .before .before .before .before .before .before .before .before .before .before .before .before .before .before .before .before .before .before .before .before .before .chain .ensures) (c .before .before .before .before .before .before .before .before .before .before .before .before .before .before .before .before .before .before .before .before .before .lower .ensures S (walk-lowerable w)) (c .before .before .before .before .before .before .before .before .before .before .before .before .before .before .rise .ensures S (walk-rising w (c .before .before .before .before .before .before .before .before .before .before .before .before .before .before .before .before .before .before .before .before .before .before .before .before .chain .ensures) (c .before .before .before .before .before .before .before .before .before .before .before .before .before .before .before .before .before .before .before .before .before .lower .ensures S (walk-lowerable w)))) (c .before .before .before .before .before .before .before .before .before .before .before .before .enum-told .given .1) (c .before .before .before .before .before .before .before .before .before .lows .ensures S (walk-bottomed w (c .before .before .before .before .before .before .before .before .before .before .before .before .before .before .before .before .before .before .before .before .before .before .before .before .chain .ensures) (c .before .before .before .before .before .before .before .before .before .before .before .before .before .before .before .before .before .before .before .before .before .lower .ensures S (walk-lowerable w)) (c .before .before .before .before .before .before .before .before .before .before .before .before .before .before .rise .ensures S (walk-rising w (c .before .before .before .before .before .before .before .before .before .before .before .before .before .before .before .before .before .before .before .before .before .before .before .before .chain .ensures) (c .before .before .before .before .before .before .before .before .before .before .before .before .before .before .before .before .before .before .before .before .before .lower .ensures S (walk-lowerable w)))) (c .before .before .before .before .before .before .before .before .before .before .before .before .enum-told .given .1))) (c .before .before .before .before .before .before .rivals .ensures S (walk-comparable w (c .before .before .before .before .before .before .before .before .before .before .before .before .before .before .before .before .before .before .before .before .before .before .before .before .chain .ensures) (c .before .before .before .before .before .before .before .before .before .before .before .before .before .before .before .before .before .before .before .before .before .lower .ensures S (walk-lowerable w)) (c .before .before .before .before .before .before .before .before .before .before .before .before .before .before .rise .ensures S (walk-rising w (c .before .before .before .before .before .before .before .before .before .before .before .before .before .before .before .before .before .before .before .before .before .before .before .before .chain .ensures) (c .before .before .before .before .before .before .before .before .before .before .before .before .before .before .before .before .before .before .before .before .before .lower .ensures S (walk-lowerable w)))) (c .before .before .before .before .before .before .before .before .before .before .before .before .enum-told .given .1) (c .before .before .before .before .before .before .before .before .before .lows .ensures S (walk-bottomed w (c .before .before .before .before .before .before .before .before .before .before .before .before .before .before .before .before .before .before .before .before .before .before .before .before .chain .ensures) (c .before .before .before .before .before .before .before .before .before .before .before .before .before .before .before .before .before .before .before .before .before .lower .ensures S (walk-lowerable w)) (c .before .before .before .before .before .before .before .before .before .before .before .before .before .before .rise .ensures S (walk-rising w (c .before .before .before .before .before .before .before .before .before .before .before .before .before .before .before .before .before .before .before .before .before .before .before .before .chain .ensures) (c .before .before .before .before .before .before .before .before .before .before .before .before .before .before .before .before .before .before .before .before .before .lower .ensures S (walk-lowerable w)))) (c .before .before .before .before .before .before .before .before .before .before .before .before .enum-told .given .1)))))))
+returns-2 c = λ S w. walk-done w (c .before .before .before .before .before .before .before .before .before .before .before .before .before .before .before .before .before .before .before .before .before .before .before .before .chain .ensures) (c .before .before .before .before .before .before .before .before .before .before .before .before .before .before .before .before .before .before .before .before .before .lower .ensures S (walk-lowerable w)) (c .before .before .before .before .before .before .before .before .before .before .before .before .before .before .rise .ensures S (walk-rising w (c .before .before .before .before .before .before .before .before .before .before .before .before .before .before .before .before .before .before .before .before .before .before .before .before .chain .ensures) (c .before .before .before .before .before .before .before .before .before .before .before .before .before .before .before .before .before .before .before .before .before .lower .ensures S (walk-lowerable w)))) (c .before .before .before .before .before .before .before .before .before .before .before .before .enum-told .given .1) (c .before .before .before .before .before .before .before .before .before .measure .ensures S (walk-bottomed w (c .before .before .before .before .before .before .before .before .before .before .before .before .before .before .before .before .before .before .before .before .before .before .before .before .chain .ensures) (c .before .before .before .before .before .before .before .before .before .before .before .before .before .before .before .before .before .before .before .before .before .lower .ensures S (walk-lowerable w)) (c .before .before .before .before .before .before .before .before .before .before .before .before .before .before .rise .ensures S (walk-rising w (c .before .before .before .before .before .before .before .before .before .before .before .before .before .before .before .before .before .before .before .before .before .before .before .before .chain .ensures) (c .before .before .before .before .before .before .before .before .before .before .before .before .before .before .before .before .before .before .before .before .before .lower .ensures S (walk-lowerable w)))) (c .before .before .before .before .before .before .before .before .before .before .before .before .enum-told .given .1))) (c .before .before .before .before .before .before .rivals .ensures S (walk-comparable w (c .before .before .before .before .before .before .before .before .before .before .before .before .before .before .before .before .before .before .before .before .before .before .before .before .chain .ensures) (c .before .before .before .before .before .before .before .before .before .before .before .before .before .before .before .before .before .before .before .before .before .lower .ensures S (walk-lowerable w)) (c .before .before .before .before .before .before .before .before .before .before .before .before .before .before .rise .ensures S (walk-rising w (c .before .before .before .before .before .before .before .before .before .before .before .before .before .before .before .before .before .before .before .before .before .before .before .before .chain .ensures) (c .before .before .before .before .before .before .before .before .before .before .before .before .before .before .before .before .before .before .before .before .before .lower .ensures S (walk-lowerable w)))) (c .before .before .before .before .before .before .before .before .before .before .before .before .enum-told .given .1) (c .before .before .before .before .before .before .before .before .before .measure .ensures S (walk-bottomed w (c .before .before .before .before .before .before .before .before .before .before .before .before .before .before .before .before .before .before .before .before .before .before .before .before .chain .ensures) (c .before .before .before .before .before .before .before .before .before .before .before .before .before .before .before .before .before .before .before .before .before .lower .ensures S (walk-lowerable w)) (c .before .before .before .before .before .before .before .before .before .before .before .before .before .before .rise .ensures S (walk-rising w (c .before .before .before .before .before .before .before .before .before .before .before .before .before .before .before .before .before .before .before .before .before .before .before .before .chain .ensures) (c .before .before .before .before .before .before .before .before .before .before .before .before .before .before .before .before .before .before .before .before .before .lower .ensures S (walk-lowerable w)))) (c .before .before .before .before .before .before .before .before .before .before .before .before .enum-told .given .1))))) (c .fall .ensures S (walk-falling w (c .before .before .before .before .before .before .before .before .before .before .before .before .before .before .before .before .before .before .before .before .before .before .before .before .chain .ensures) (c .before .before .before .before .before .before .before .before .before .before .before .before .before .before .before .before .before .before .before .before .before .lower .ensures S (walk-lowerable w)) (c .before .before .before .before .before .before .before .before .before .before .before .before .before .before .rise .ensures S (walk-rising w (c .before .before .before .before .before .before .before .before .before .before .before .before .before .before .before .before .before .before .before .before .before .before .before .before .chain .ensures) (c .before .before .before .before .before .before .before .before .before .before .before .before .before .before .before .before .before .before .before .before .before .lower .ensures S (walk-lowerable w)))) (c .before .before .before .before .before .before .before .before .before .before .before .before .enum-told .given .1) (c .before .before .before .before .before .before .before .before .before .measure .ensures S (walk-bottomed w (c .before .before .before .before .before .before .before .before .before .before .before .before .before .before .before .before .before .before .before .before .before .before .before .before .chain .ensures) (c .before .before .before .before .before .before .before .before .before .before .before .before .before .before .before .before .before .before .before .before .before .lower .ensures S (walk-lowerable w)) (c .before .before .before .before .before .before .before .before .before .before .before .before .before .before .rise .ensures S (walk-rising w (c .before .before .before .before .before .before .before .before .before .before .before .before .before .before .before .before .before .before .before .before .before .before .before .before .chain .ensures) (c .before .before .before .before .before .before .before .before .before .before .before .before .before .before .before .before .before .before .before .before .before .lower .ensures S (walk-lowerable w)))) (c .before .before .before .before .before .before .before .before .before .before .before .before .enum-told .given .1))) (c .before .before .before .before .before .before .rivals .ensures S (walk-comparable w (c .before .before .before .before .before .before .before .before .before .before .before .before .before .before .before .before .before .before .before .before .before .before .before .before .chain .ensures) (c .before .before .before .before .before .before .before .before .before .before .before .before .before .before .before .before .before .before .before .before .before .lower .ensures S (walk-lowerable w)) (c .before .before .before .before .before .before .before .before .before .before .before .before .before .before .rise .ensures S (walk-rising w (c .before .before .before .before .before .before .before .before .before .before .before .before .before .before .before .before .before .before .before .before .before .before .before .before .chain .ensures) (c .before .before .before .before .before .before .before .before .before .before .before .before .before .before .before .before .before .before .before .before .before .lower .ensures S (walk-lowerable w)))) (c .before .before .before .before .before .before .before .before .before .before .before .before .enum-told .given .1) (c .before .before .before .before .before .before .before .before .before .measure .ensures S (walk-bottomed w (c .before .before .before .before .before .before .before .before .before .before .before .before .before .before .before .before .before .before .before .before .before .before .before .before .chain .ensures) (c .before .before .before .before .before .before .before .before .before .before .before .before .before .before .before .before .before .before .before .before .before .lower .ensures S (walk-lowerable w)) (c .before .before .before .before .before .before .before .before .before .before .before .before .before .before .rise .ensures S (walk-rising w (c .before .before .before .before .before .before .before .before .before .before .before .before .before .before .before .before .before .before .before .before .before .before .before .before .chain .ensures) (c .before .before .before .before .before .before .before .before .before .before .before .before .before .before .before .before .before .before .before .before .before .lower .ensures S (walk-lowerable w)))) (c .before .before .before .before .before .before .before .before .before .before .before .before .enum-told .given .1)))))))
 
 pub walk-spec : {M : Type 1} → statement M
 walk-spec =
@@ -50,7 +50,7 @@ walk-spec =
     enum-told
     enum-known-b
     returns
-    lows-requires
+    measure-requires
     rivals-requires
     fall-requires
     returns-2)

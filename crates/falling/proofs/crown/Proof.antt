@@ -1,6 +1,6 @@
 -- Each call is asked what it may be asked of a line that nothing has passed; the laws of such a line give the rest.
+use Rattle.links.proofs.Outcomes.{torn}
 use native.Mathlib.Omega.{arith}
-use Rattle.meeting.proofs.Overlapping.{torn}
 use Rattle.falling.proofs.Crowning.{parent-small, crown-meets, crown-keeps, crown-marks, crown-done}
 use borrow.Author.Needs.{needs}
 use Rattle.falling.proofs.crown.Statement.{statement}

@@ -1,10 +1,9 @@
 -- The loop over the heights keeps `Walk`, the one along a chain `Turn`.
+use Rattle.links.proofs.Outcomes.{torn, holds-of}
 use native.Mathlib.Omega.{arith}
 use Prim.Native.Nat.{_-_}
 use Rattle.fork.specs.Inside.{EachTree}
-use Rattle.meeting.proofs.Overlapping.{torn}
 use Rattle.falling.specs.Inside.{Falling}
-use Rattle.falling.proofs.Descending.{holds-of}
 use Rattle.falling.proofs.Walking.{Walk, Turn, Entered, walk-start, walk-done, level-small, entered, turn-level, turn-done, turn-place, turn-coming, turn-rises, turn-next}
 use borrow.Author.Needs.{needs}
 use Rattle.falling.proofs.fall.Statement.{statement}

@@ -1,12 +1,12 @@
--- `lows` fills its column tree line by tree line.
+-- `measure` fills its column tree line by tree line.
 use Prim.Native.Nat.{_-_}
 use Rattle.fork.specs.Inside.{EachTree}
 use Rattle.lows.specs.Inside.{Bottomed}
 use Rattle.lows.proofs.Plumbing.{Plumbing, plumbing-start, plumbing-line, plumbing-root, plumbing-none, plumbing-bottom, plumbing-some, plumbing-done}
 use native.Mathlib.Omega.{arith}
 use borrow.Author.Needs.{needs}
-use Rattle.lows.proofs.lows.Statement.{statement}
-use Rattle.lows.proofs.lows.Tie as tie
+use Rattle.lows.proofs.measure.Statement.{statement}
+use Rattle.lows.proofs.measure.Tie as tie
 
 abbrev Inv-loop : tie.InvT-loop
 Inv-loop vertices heights parents bottoms forks₀ v₀ forks v = EachTree (λ S. Bottomed S vertices heights parents bottoms forks₀) (λ S. Plumbing S v forks)
@@ -206,8 +206,8 @@ loop-again-3 c =
 returns : tie.Need-returns Inv-loop μ-loop
 returns c = λ S s. plumbing-done s (c .before .loop .inv S s) (c .loop-test .left)
 
-pub lows-spec : {M : Type 1} → statement M
-lows-spec =
+pub measure-spec : {M : Type 1} → statement M
+measure-spec =
     tie.close
     (tie.spec
     Inv-loop

@@ -1,13 +1,13 @@
 -- The loop keeps `Descent`: what is above the vertex that b has come to has been passed.
+use Rattle.links.proofs.Outcomes.{torn, holds-of}
 use native.Mathlib.Omega.{arith}
 use Rattle.laws.specs.Lists.{at}
 use Rattle.fork.specs.Inside.{EachTree}
-use Rattle.meeting.proofs.Overlapping.{torn}
 use Rattle.falling.specs.Down.{Sinking}
-use Rattle.falling.proofs.Descending.{Descent, holds-of, sinking-line, sinking-end, descent-start, descent-vertex, descent-landing, descent-steps, lengthen-first, lengthen-second, descent-less, descent-more, descent-done}
+use Rattle.falling.proofs.Descending.{Descent, sinking-line, sinking-end, descent-start, descent-vertex, descent-landing, descent-steps, lengthen-first, lengthen-second, descent-less, descent-more, descent-done}
 use borrow.Author.Needs.{needs}
-use Rattle.falling.proofs.sink.Statement.{statement}
-use Rattle.falling.proofs.sink.Tie as tie
+use Rattle.falling.proofs.go_down.Statement.{statement}
+use Rattle.falling.proofs.go_down.Tie as tie
 
 abbrev Inv-loop : tie.InvT-loop
 Inv-loop b x heights parents jumps₀ pairs₀ forks₀ groups₀ s p₀ v₀ steps₀ jumps pairs forks groups p v steps =
@@ -82,8 +82,8 @@ loop-again c = λ S C.
 returns-2 : tie.Need-returns-2 Inv-loop μ-loop
 returns-2 c = λ S C. descent-done C (c .before .before .loop .inv S C) (omega arith)
 
-pub sink-spec : {M : Type 1} → statement M
-sink-spec =
+pub go-down-spec : {M : Type 1} → statement M
+go-down-spec =
     tie.close
     (tie.spec
     Inv-loop
