@@ -1,6 +1,8 @@
 // Left and right: the first aligned choice of a network, and the next one after a given one.
 //
 // `first` and `next` are the calls; their contracts cite specs/Calls.antt. `beginning` is what they, and draw, begin with.
+#![tactic(auto)]
+
 pub mod beginning;
 
 ghost use Rattle.std.specs.Prelude.{ℕ};

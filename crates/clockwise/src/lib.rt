@@ -3,6 +3,8 @@
 // The fans come first (`fans`). Then one walk up the tree takes the lines of each fan in their order; a back line that it discovers is hung, at the vertex where
 // it ends, to the company on its side of the tree line that leads there (`walks`). Those found later stand in front, as the order wants them. Last, each
 // vertex's lines are written one after the other.
+#![tactic(auto)]
+
 mod walks;
 mod ways;
 

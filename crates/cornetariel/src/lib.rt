@@ -2,6 +2,8 @@
 //
 // For C each call has its slices as a pointer and then a length, and returns its whole answer as one number: see include/cornetariel.h. Their
 // statements say that this number packs an answer that the call's own statement allows with what is in the buffers (specs/Face.antt).
+#![tactic(auto)]
+
 ghost use Rattle.std.specs.Prelude.{◌≡◌, ℕ, ◌+◌, ◌*◌, ◌<◌};
 ghost use Rattle.cornetariel.specs.Face.{packed, Small, OrientC, FirstC, NextC, DrawC, ReadC, WriteC};
 

@@ -3,6 +3,8 @@
 // A back line comes down from its source along the tree, and is a return of the tree lines that it passes. Two walks take the back lines by their ends:
 // the one by rising ends ties the lowest returns of each tree line (`rising`), the one by falling ends those that a tree line holds, and the tops of
 // lines that overlap at a fork (`falling`). Between them come the lows and the rivals, which the first makes known and the second goes by (`lows`).
+#![tactic(auto)]
+
 ghost use Rattle.std.specs.Prelude.{◌≡◌, ℕ, length};
 ghost use Rattle.tree.specs.Tree.{«tree_of»};
 ghost use Rattle.fork.specs.Inside.{Known, SomeTree, EachTree};

@@ -3,6 +3,8 @@
 // `draw` is the call; its contract cites specs/Draw.antt, whose words stand on the definitions of clockwise/specs/Order.antt and
 // meshes/specs/Meshes.antt. `sketches` makes the drawing in tables that draw keeps to itself, so that nothing lent by the caller is written
 // before all that can refuse is settled.
+#![tactic(auto)]
+
 mod sketches;
 
 ghost use Rattle.std.specs.Prelude.{◌≡◌, ℕ, ◌+◌, ◌*◌, ◌/◌, ◌≤◌, ◌<◌};

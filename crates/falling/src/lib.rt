@@ -9,6 +9,8 @@
 // rivals, and the top of one that has it. Rivals below x are those of lines that hold b: their tops are all tied to that one already, so that one tie does
 // for all of them; and where the least is x or higher, none of them holds anything that is still to come. After b has passed two jumps in a row, they may
 // be made one: b is tied to the top of each, as far as it counts.
+#![tactic(auto)]
+
 mod jumps;
 
 ghost use Rattle.std.specs.Prelude.{◌≡◌, ℕ, suc, ◌+◌};

@@ -2,6 +2,8 @@
 //
 // While constraints are taken in, each line points to a lower one of its group, or leads. Its contracts cite specs/Groups.antt and, for what is
 // between these functions alone, specs/Calls.antt.
+#![tactic(auto)]
+
 pub mod choice; // the first choice, the next choice, the test of a choice
 pub mod columns; // the table of groups
 

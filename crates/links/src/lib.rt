@@ -1,6 +1,8 @@
 // A link taken into the groups, if it can be obeyed: all that was obeyed is obeyed still.
 //
 // The two walks find the links; here one of them is tied. The contract cites specs/Inside.antt.
+#![tactic(auto)]
+
 ghost use Rattle.std.specs.Prelude.{ℕ};
 ghost use Rattle.groups.specs.Groups.{pointed};
 ghost use Rattle.fork.specs.Inside.{SomeTree, EachTree};

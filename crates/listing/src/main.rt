@@ -1,6 +1,8 @@
 // The listing program: reads the text of a network from standard input, and prints what can be said of it.
 //
 // All that it prints is made by `page::print`, from bytes to bytes, whose contract cites specs/Page.antt. Nothing is proved of reading and writing.
+#![tactic(auto)]
+
 mod page;
 mod pieces;
 

@@ -1,4 +1,6 @@
 // How low the returns of each line end, once the bottoms are known; and how low those of a tree line's rivals, the other lines that leave where it leaves.
+#![tactic(auto)]
+
 ghost use Rattle.std.specs.Prelude.{◌≡◌, ℕ, min, max};
 ghost use Rattle.fork.specs.Inside.{SomeTree, EachTree};
 ghost use Rattle.lows.specs.Inside.{Bottomed, Plumbed, Comparable, Compared, Weighable, Weighed};

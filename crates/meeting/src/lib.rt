@@ -4,6 +4,8 @@
 // Two of them are enough. Whatever was met before and overlaps a line that ends as high as x has a low below x; three such lines would overlap each
 // other, and no three lines are apart in pairs. So at each vertex the two with the least lows are kept. A back line met before overlaps nothing met
 // later, and is not kept.
+#![tactic(auto)]
+
 ghost use Rattle.std.specs.Prelude.{ℕ, ◌+◌, ◌<◌};
 ghost use Rattle.laws.specs.Lists.{at};
 ghost use Rattle.fork.specs.Inside.{SomeTree, EachTree};

@@ -2,6 +2,8 @@
 //
 // `turns` makes the table that says which direction follows each; a mesh is a walk along it. The table is one-to-one, so that every walk comes back to where
 // it began.
+#![tactic(auto)]
+
 pub mod turns;
 
 ghost use Rattle.std.specs.Prelude.{◌≡◌, ℕ, ◌+◌, ◌*◌, ◌<◌, replicate};

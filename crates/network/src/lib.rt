@@ -1,6 +1,8 @@
 // The network that every call is given: its limits, the answer with its number, and checks 2 to 5.
 //
 // Its contracts cite specs/Numbers.antt and specs/Inside.antt.
+#![tactic(auto)]
+
 pub mod copies;
 
 ghost use Rattle.std.specs.Prelude.{◌≡◌, ℕ, ◌+◌, ◌*◌, ◌/◌, ◌≤◌, ◌<◌, length, get_or};

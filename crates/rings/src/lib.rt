@@ -5,6 +5,8 @@
 // The flood looks only along the joinings of the lines that it reaches, and along each once a direction, so its time grows with the lines.
 //
 // Its contracts cite specs/Rings.antt and specs/Flooding.antt.
+#![tactic(auto)]
+
 mod circle; // a chain of lines read as a ring
 mod flood; // the flood along half-steps
 mod steps; // half-steps, chained by the lines that they leave

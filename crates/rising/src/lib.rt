@@ -3,6 +3,8 @@
 // A back line goes down from its source and becomes the bottom of each tree line without one; it stops at the first that has one. The lines that came
 // before end as low or lower, so that whatever it would pass further down has a bottom too. Where the bottom that stopped it ends as low as it does,
 // the two are tied.
+#![tactic(auto)]
+
 ghost use Rattle.std.specs.Prelude.{ℕ, ◌+◌};
 ghost use Rattle.tree.specs.Returns.{end};
 ghost use Rattle.fork.specs.Inside.{SomeTree, EachTree};

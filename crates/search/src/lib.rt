@@ -2,6 +2,8 @@
 //
 // `orient` is the call. `explore` is what every other call that needs the tree begins with, `fault` tells its number alone. Their contracts cite specs/Orient.antt, whose words
 // stand on the machine of specs/Machine.antt.
+#![tactic(auto)]
+
 mod chains;
 mod visits;
 

@@ -1,6 +1,8 @@
 // The side of a back line, as a choice writes it: the one place where left and right are numbers.
 //
 // Follow a back line down, and then the tree path up to its start: this round trip turns anticlockwise where the line is left, clockwise where it is right.
+#![tactic(auto)]
+
 ghost use Rattle.std.specs.Prelude.{◌≡◌};
 ghost use Rattle.side.specs.Sides.{opposite};
 

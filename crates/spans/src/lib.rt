@@ -1,4 +1,6 @@
 // The tables that the two walks go by: of each line where it leaves and how high it ends, the back lines chained by their ends, and the vertex below each.
+#![tactic(auto)]
+
 pub mod columns;
 
 ghost use Rattle.std.specs.Prelude.{cond, ◌≡◌, ℕ, ◌+◌, ◌<◌};

@@ -1,6 +1,8 @@
 // A network as text: read and write.
 //
 // Their contracts cite specs/Calls.antt, whose words stand on the frames and the form of specs/Text.antt.
+#![tactic(auto)]
+
 mod form;
 mod frames;
 
