@@ -1,0 +1,17 @@
+-- `turn` writes the new byte of each line, from the front.
+use Rattle.groups.proofs.Filling.{Turns, Filled, filled_none, byte_small, turns_more, turns_all}
+use Prim.Native.Nat.{◌-◌}
+use borrow.Author.Rules.{rules}
+use Rattle.groups.proofs.choice.turn.Goals as goal
+
+pub loop-b-init : goal.loop-b-init
+loop-b-init c = search filled_none
+
+pub parity-requires : goal.parity-requires
+parity-requires c = (search rules, search byte_small)
+
+pub loop-b-preserved : goal.loop-b-preserved
+loop-b-preserved c = search turns_more
+
+pub returns : goal.returns
+returns c = search turns_all

@@ -1,0 +1,11 @@
+-- `turn` writes the new byte of each line, from the front.
+use Rattle.groups.proofs.Filling.{Turns, Filled, filled_none, byte_small, turns_more, turns_all}
+use Prim.Native.Nat.{◌-◌}
+use borrow.Author.Rules.{rules}
+use Rattle.groups.proofs.choice.turn.Given as goal
+
+abbrev pub invariant-loop-b : goal.invariant-loop-b
+invariant-loop-b l = Filled (Turns l.groups l.initial.choice l.r) l.lines l.b l.initial.choice l.choice
+
+abbrev pub decreases-loop-b : goal.decreases-loop-b
+decreases-loop-b l = l.lines - l.b

@@ -1,0 +1,11 @@
+-- `flatten` passes the lines from the front.
+use Rattle.groups.proofs.Passing.{Flattening, flat_start, flat_passable, flat_drawn, flat_kept, flattened}
+use Prim.Native.Nat.{◌-◌}
+use borrow.Author.Rules.{rules}
+use Rattle.groups.proofs.flatten.Given as goal
+
+abbrev pub invariant-loop-b : goal.invariant-loop-b
+invariant-loop-b l = Flattening l.lines l.initial.groups l.groups l.b
+
+abbrev pub decreases-loop-b : goal.decreases-loop-b
+decreases-loop-b l = l.lines - l.b

@@ -1,0 +1,7 @@
+-- `pass` changes the pointer and the turn of x.
+use Rattle.groups.proofs.Passing.{passed_by}
+use borrow.Author.Rules.{rules}
+use Rattle.groups.proofs.pass.Goals as goal
+
+pub returns : goal.returns
+returns c = search passed_by
