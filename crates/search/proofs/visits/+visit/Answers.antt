@@ -32,11 +32,11 @@ pub visit-requires : goal.visit-requires
 visit-requires t c =
     (
       omega (arith, visit_less c.requires.chained c.requires.some_count.asked (c.loop-h.invariant _ c.requires.some_count.asked) c.loop-h-test.true c.wide-after.ensures c.if-kinds-k-eq-UNUSED.true c.far-w.ensures c.if-found-w-eq0.true c.enter.ensures, c.decreases),
-      c.requires.chained,
+      (c.requires.chained,
       record {
         count = c.requires.some_count.count;
         asked = record { fit = c.requires.some_count.asked.fit; ready = visit_in c.requires.chained c.requires.some_count.asked (c.loop-h.invariant _ c.requires.some_count.asked) c.loop-h-test.true c.wide-after.ensures c.if-kinds-k-eq-UNUSED.true c.far-w.ensures c.if-found-w-eq0.true c.enter.ensures };
-      },
+      }),
     )
 
 pub loop-h-smaller-then-found-w-eq0 : goal.loop-h-smaller-then-found-w-eq0
