@@ -1,6 +1,6 @@
 // What first choice, next choice and draw begin with: the search, and the groups of the back lines.
 ghost use Rattle.std.specs.Prelude.{ℕ};
-ghost use Rattle.search.specs.Inside.{«search_of», Blank};
+ghost use Rattle.search.specs.Inside.{search_of, Blank};
 ghost use Rattle.descents.specs.Inside.{Lent};
 ghost use Rattle.choice.specs.Inside.{Begun};
 

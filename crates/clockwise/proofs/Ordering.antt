@@ -28,7 +28,7 @@ use Rattle.fans.specs.Fanning.{Fannable}
 use Rattle.fans.proofs.Hanging.{chained_list, chained_as, chained_none}
 use Rattle.clockwise.specs.Order.{discovered, incoming, beside, clockwise, order_at}
 use Rattle.clockwise.specs.Walks.{Fanned, Over, Rooted, Uppers, stem_of, group_of, groups_of, SettingOut, WalkedBack}
-use Rattle.clockwise.specs.Laying.{item_in, Upper, first_in, lines_at, Layable, Laid_out}
+use Rattle.clockwise.specs.Laying.{item_in, Upper, first_in, lines_at, Layable, LaidOut}
 use Rattle.clockwise.specs.Ordering.{Orderable}
 use Rattle.clockwise.proofs.Leaving.{fanned}
 use Rattle.clockwise.proofs.Discovered.{over}
@@ -193,7 +193,7 @@ module _ {S : Tree} {n m : ℕ} {parents forks choice : List ℕ} (P : Orderable
             );
           }
 
-      pub order_done : {order starts : List ℕ} → Laid_out n (lines_at parents uppers fans groups) order starts → Laid_out n (order_at S (at choice)) order starts
+      pub order_done : {order starts : List ℕ} → LaidOut n (lines_at parents uppers fans groups) order starts → LaidOut n (order_at S (at choice)) order starts
       order_done {order} {starts} L =
           let same : (v : ℕ) → v ≤ n → gather (lines_at parents uppers fans groups) (upto v) ≡ gather (order_at S side) (upto v) =
           λ v h. gather_upto (lines_at parents uppers fans groups) (order_at S side) n v h lists_are in

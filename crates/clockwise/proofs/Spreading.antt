@@ -19,7 +19,7 @@ use Rattle.side.specs.Sides.{left, right}
 use Rattle.network.specs.Marks.{absent}
 use Rattle.fans.specs.Chains.{Chain, chain_from, list_in, Copyable, Appended}
 use Rattle.fans.proofs.Hanging.{chain_list, chained_short, chained_copy}
-use Rattle.clockwise.specs.Laying.{item_in, Besides, spread_in, Spreads, first_in, Begins, lines_at, Layable, Laid_out}
+use Rattle.clockwise.specs.Laying.{item_in, Besides, spread_in, Spreads, first_in, Begins, lines_at, Layable, LaidOut}
 
 -- Lists written one after the other
 
@@ -279,7 +279,7 @@ module _ {n : ℕ} {parents uppers fans groups : List ℕ} (P : Layable n parent
                   (λ d. let d' : u ≢ v + 1 = d in get_or-set_other starts (v + 1) u at₂ 0 d ∙ G.starts_at u (omega arith));
             }
 
-  pub laying_done : {order starts : List ℕ} {at v : ℕ} → Laying n parents uppers fans groups order starts at v → n ≤ v → Laid_out n (lines_at parents uppers fans groups) order starts
+  pub laying_done : {order starts : List ℕ} {at v : ℕ} → Laying n parents uppers fans groups order starts at v → n ≤ v → LaidOut n (lines_at parents uppers fans groups) order starts
   laying_done {order} {starts} {at} {v} G h =
       let e : v ≡ n = omega (arith, G.upto_v) in
       record {

@@ -55,7 +55,7 @@ pub record Layable (n : ℕ) (parents uppers fans groups : List ℕ) : Type 0 wh
   pub room : length (gather (lines_at parents uppers fans groups) (upto n)) ≤ 4096
 
 -- The lists of the first n vertices stand one after the other, and it is known where each begins.
-pub record Laid_out (n : ℕ) (list : ℕ → List ℕ) (order starts : List ℕ) : Type 0 where
+pub record LaidOut (n : ℕ) (list : ℕ → List ℕ) (order starts : List ℕ) : Type 0 where
   pub order_long : length order ≡ 4096
   pub starts_long : length starts ≡ 513
   pub written : take (length (gather list (upto n))) order ≡ gather list (upto n)

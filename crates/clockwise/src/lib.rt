@@ -12,8 +12,8 @@ ghost use Rattle.std.specs.Prelude.{◌≡◌, ℕ, ◌+◌, ◌*◌, ◌<◌, l
 ghost use Rattle.laws.specs.Lists.{at};
 ghost use Rattle.fork.specs.Inside.{SomeTree, EachTree};
 ghost use Rattle.fans.specs.Chains.{Appended};
-ghost use Rattle.clockwise.specs.Laying.{«item_in», Besides, «spread_in», Spreads, «first_in», Begins, «lines_at», Layable, «Laid_out»};
-ghost use Rattle.clockwise.specs.Order.{«order_at»};
+ghost use Rattle.clockwise.specs.Laying.{item_in, Besides, spread_in, Spreads, first_in, Begins, lines_at, Layable, LaidOut};
+ghost use Rattle.clockwise.specs.Order.{order_at};
 ghost use Rattle.clockwise.specs.Ordering.{Orderable};
 
 use fans::chains::{after, copied, first};
@@ -34,7 +34,7 @@ pub fn ordered(
     requires some_tree { SomeTree (λ S. Orderable S vertices lines parents.now forks.now choice.now) }
     requires order_len { (length order.old ≡ 4096) × (length starts.old ≡ 513) }
     ensures { EachTree (λ S. Orderable S vertices lines parents.now forks.now choice.now)
-        (λ S. Laid_out vertices (order_at S (at choice.now)) order.new starts.new) }
+        (λ S. LaidOut vertices (order_at S (at choice.now)) order.new starts.new) }
 {
     let mut out = [Absent::ENTRY; 3072];
     let mut uppers = [Absent::ENTRY; 2048];
@@ -58,7 +58,7 @@ fn laid(
 )
     requires layable { Layable vertices parents.now uppers.now fans.now groups.now }
     requires order_len { (length order.old ≡ 4096) × (length starts.old ≡ 513) }
-    ensures { Laid_out vertices (lines_at parents.now uppers.now fans.now groups.now)
+    ensures { LaidOut vertices (lines_at parents.now uppers.now fans.now groups.now)
         order.new starts.new }
 {
     starts[0] = 0;

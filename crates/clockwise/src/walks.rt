@@ -1,7 +1,7 @@
 // The walk up the tree that takes the lines of each fan in their order, and so discovers the back lines.
 ghost use Rattle.std.specs.Prelude.{◌≡◌, ℕ, ◌+◌, ◌*◌, get_or};
 ghost use Rattle.fans.specs.Chains.{hung};
-ghost use Rattle.clockwise.specs.Walks.{SomeWalk, EachWalk, Collectable, «SettingOut», WalkedBack};
+ghost use Rattle.clockwise.specs.Walks.{SomeWalk, EachWalk, Collectable, SettingOut, WalkedBack};
 
 use fans::chains::{after, first, hang};
 use fork::columns::STOP;

@@ -6,7 +6,7 @@
 #![tactic(auto)]
 
 ghost use Rattle.std.specs.Prelude.{◌≡◌, ℕ, length};
-ghost use Rattle.tree.specs.Tree.{«tree_of»};
+ghost use Rattle.tree.specs.Tree.{tree_of};
 ghost use Rattle.fork.specs.Inside.{Known, SomeTree, EachTree};
 ghost use Rattle.descents.specs.Inside.{Lent, Walkable, Tied, Grouping};
 

@@ -3,12 +3,12 @@
 
 ghost use Rattle.std.specs.Prelude.{true, ◌≡◌, ◌+◌, ◌≤◌, ◌<◌, length};
 ghost use Rattle.std.proofs.lemmas.List.Edits.{sets};
-ghost use Rattle.digits.specs.Digits.{digit, «is_digit», value, digits};
-ghost use Rattle.digits.specs.Inside.{«is_word», Word, Number};
+ghost use Rattle.digits.specs.Digits.{digit, is_digit, value, digits};
+ghost use Rattle.digits.specs.Inside.{is_word, Word, Number};
 
 // Whether a byte is a digit.
 fn is_digit(byte: u8) -> bool
-    ensures { result ≡ «is_digit» byte }
+    ensures { result ≡ is_digit byte }
 {
     if byte < 48 {
         return false;
@@ -24,7 +24,7 @@ fn is_digit(byte: u8) -> bool
 
 // Which digit a byte is.
 fn value(byte: u8) -> u16
-    requires { «is_digit» byte ≡ true }
+    requires { is_digit byte ≡ true }
     ensures { (result ≡ value byte) × (result < 16) }
 {
     if byte < 97 {
@@ -47,7 +47,7 @@ fn digit(d: u16) -> u8
 // Whether four digits stand at a place.
 pub fn is_word(text: &[u8], at: usize) -> bool
     requires { at + 4 ≤ length text.now }
-    ensures { result ≡ «is_word» text.now at }
+    ensures { result ≡ is_word text.now at }
 {
     if !is_digit(text[at]) {
         return false;

@@ -26,7 +26,7 @@ use Rattle.meshes.specs.Inside.{every, Whole, order_in, Laid, Linked, Numberable
 use Rattle.meshes.proofs.Directions.{other_way_below}
 use Rattle.meshes.proofs.Turning.{turn}
 use Rattle.clockwise.specs.Order.{order_at, flat}
-use Rattle.clockwise.specs.Laying.{Laid_out}
+use Rattle.clockwise.specs.Laying.{LaidOut}
 use Rattle.clockwise.proofs.Flat.{flat_next, flat_rises, flat_full}
 use Rattle.drawing.specs.Drawing.{Sketchable, Drawn}
 
@@ -44,7 +44,7 @@ take_map f (suc k) l h e =
     map_append [] b = refl
     map_append (x ∷ a) b = ap (λ (w : List ℕ). f x ∷ w) (map_append a b)
 
-module _ (n : ℕ) (list : ℕ → List ℕ) (order starts : List ℕ) (L : Laid_out n list order starts) where
+module _ (n : ℕ) (list : ℕ → List ℕ) (order starts : List ℕ) (L : LaidOut n list order starts) where
   -- the flat order of fewer vertices is a part of the whole
   begins : (v k : ℕ) → v ≤ k → take (length (flat v list)) (flat k list) ≡ flat v list
   begins v zero h = let e : v ≡ 0 = omega arith in ap (λ (x : ℕ). take (length (flat x list)) (flat 0 list)) e ∙ take-length (flat 0 list) ∙ ap (λ (x : ℕ). flat x list) (sym e)
@@ -76,7 +76,7 @@ unfolding mesh_of
 mesh_number live m ends order d = refl
 
 module _ {n m : ℕ} {ends : List ℕ} (fit : Fit (network_of n m ends)) {live : ℕ → Bool} (all_live : (k : ℕ) → k < m → live k ≡ true) {list : ℕ → List ℕ}
-    (whole : Whole (network_of n m ends) live list) {order starts : List ℕ} (L : Laid_out n list order starts) where
+    (whole : Whole (network_of n m ends) live list) {order starts : List ℕ} (L : LaidOut n list order starts) where
   abbrev net : Network
   net = network_of n m ends
 
@@ -186,7 +186,7 @@ module _ {S : Tree} {n : ℕ} {ends parents forks choice : List ℕ} (P : Sketch
   all_live : (k : ℕ) → k < length ends / 2 → S.live k ≡ true
   all_live k h = (P.orderable.finished.every k (omega (arith, P.orderable.same_lines))).yes
 
-  module _ {order starts : List ℕ} (L : Laid_out n (order_at S (at choice)) order starts) where
+  module _ {order starts : List ℕ} (L : LaidOut n (order_at S (at choice)) order starts) where
     pub drawn_laid : Laid (network n ends) order starts
     drawn_laid = mesh_laid P.fits all_live P.whole L
 

@@ -8,7 +8,7 @@
 mod sketches;
 
 ghost use Rattle.std.specs.Prelude.{◌≡◌, ℕ, ◌+◌, ◌*◌, ◌/◌, ◌≤◌, ◌<◌};
-ghost use Rattle.drawing.specs.Draw.{«cramped_draw», Draw};
+ghost use Rattle.drawing.specs.Draw.{cramped_draw, Draw};
 ghost use Rattle.drawing.specs.Settling.{Settling, Wrote};
 
 use crate::sketches::sketch;

@@ -1,6 +1,6 @@
 // The rank of each line, by which the lines that leave a vertex nest, and the side of each line. Both are read off the table of forks.
 ghost use Rattle.std.specs.Prelude.{◌≡◌, ℕ, ◌+◌, ◌*◌, ◌<◌, length};
-ghost use Rattle.fans.specs.Nesting.{Tabulated, «rank_of», «rank_in», Nestable, «side_in», Sidable};
+ghost use Rattle.fans.specs.Nesting.{Tabulated, rank_of, rank_in, Nestable, side_in, Sidable};
 
 use fork::columns::{HIGH, LOW, NOWHERE, STOP, top};
 use network::wide;

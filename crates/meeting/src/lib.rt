@@ -10,8 +10,8 @@ ghost use Rattle.std.specs.Prelude.{ℕ, ◌+◌, ◌<◌};
 ghost use Rattle.laws.specs.Lists.{at};
 ghost use Rattle.fork.specs.Inside.{SomeTree, EachTree};
 ghost use Rattle.links.specs.Inside.{Outcome};
-ghost use Rattle.meeting.specs.Inside.{Meeting, «MetApart», Insertable, Inserted};
-ghost use Rattle.meeting.specs.Facing.{Facing, Parted, «SecondParted»};
+ghost use Rattle.meeting.specs.Inside.{Meeting, MetApart, Insertable, Inserted};
+ghost use Rattle.meeting.specs.Facing.{Facing, Parted, SecondParted};
 
 use fork::columns::STOP;
 use links::Tie;

@@ -1,9 +1,9 @@
 // Which direction follows each: at the vertex where it ends, the line after its own in that vertex's order.
 ghost use Rattle.std.specs.Prelude.{◌≡◌, ℕ, ◌+◌, ◌*◌, ◌≤◌, ◌<◌, length};
-ghost use Rattle.network.specs.Network.{«network_of»};
+ghost use Rattle.network.specs.Network.{network_of};
 ghost use Rattle.network.specs.Inside.{Fit};
-ghost use Rattle.meshes.specs.Meshes.{«other_way», «leave_by»};
-ghost use Rattle.meshes.specs.Inside.{«place_after», Laid, Linked};
+ghost use Rattle.meshes.specs.Meshes.{other_way, leave_by};
+ghost use Rattle.meshes.specs.Inside.{place_after, Laid, Linked};
 
 use network::wide;
 

@@ -11,7 +11,7 @@ ghost use Rattle.std.specs.Prelude.{◌≡◌, Bool, true, false, ℕ, ◌+◌, 
 ghost use Rattle.network.specs.Network.{network};
 ghost use Rattle.network.specs.Inside.{Fit};
 ghost use Rattle.search.specs.Orient.{Orient};
-ghost use Rattle.search.specs.Inside.{Explored, Faulted, «search_of», Blank, Ended, everyone};
+ghost use Rattle.search.specs.Inside.{Explored, Faulted, search_of, Blank, Ended, everyone};
 
 use network::{Answer, Kind};
 

@@ -2,12 +2,12 @@
 ghost use Rattle.std.specs.Prelude.{◌≡◌, ◌+◌, ◌*◌, ◌≤◌, ◌<◌, length};
 ghost use Rattle.laws.specs.Tests.{all};
 ghost use Rattle.digits.specs.Inside.{Word, Number};
-ghost use Rattle.text.specs.Text.{«well_placed», «has_form»};
-ghost use Rattle.text.specs.Inside.{«is_frame», Opened};
+ghost use Rattle.text.specs.Text.{well_placed, has_form};
+ghost use Rattle.text.specs.Inside.{is_frame, Opened};
 
 // Whether a text has the form. The first frame comes first, since it says how long the text should be.
 pub(crate) fn has_form(text: &[u8]) -> bool
-    ensures { result ≡ «has_form» text.now }
+    ensures { result ≡ has_form text.now }
 {
     if text.len() < 9 {
         return false;
@@ -40,7 +40,7 @@ fn are_frames(text: &[u8], lines: usize) -> bool
 // Whether the nine bytes of frame k are eight digits and a line feed.
 fn is_frame(text: &[u8], k: usize) -> bool
     requires { 9 * k + 9 ≤ length text.now }
-    ensures { result ≡ «is_frame» text.now k }
+    ensures { result ≡ is_frame text.now k }
 {
     let at = 9 * k;
     if !digits::is_word(text, at) {

@@ -2,13 +2,13 @@
 ghost use Rattle.std.specs.Prelude.{◌≡◌, ◌+◌, ◌*◌, ◌/◌, ◌≤◌, ◌<◌, length};
 ghost use Rattle.std.proofs.lemmas.List.Edits.{sets};
 ghost use Rattle.laws.specs.Lists.{filled};
-ghost use Rattle.text.specs.Text.{frame, «text_of», room, «ends_in»};
-ghost use Rattle.text.specs.Inside.{Parsable, Roomy, Writable, «after_first»};
+ghost use Rattle.text.specs.Text.{frame, text_of, room, ends_in};
+ghost use Rattle.text.specs.Inside.{Parsable, Roomy, Writable, after_first};
 
 // Takes the two ends of each line from a text that has the form.
 pub(crate) fn take_ends(text: &[u8], lines: usize, ends: &mut [u16])
     requires { Parsable text.now lines ends.old }
-    ensures { ends.new ≡ filled (2 * lines) («ends_in» text.now) ends.old }
+    ensures { ends.new ≡ filled (2 * lines) (ends_in text.now) ends.old }
 {
     let mut k = 0;
     while k < lines {
@@ -22,7 +22,7 @@ pub(crate) fn take_ends(text: &[u8], lines: usize, ends: &mut [u16])
 // Puts the text of a network at the beginning of a buffer.
 pub(crate) fn put_text(vertices: usize, ends: &[u16], text: &mut [u8])
     requires { Writable vertices ends.now text.old }
-    ensures { text.new ≡ filled (room (length ends.now / 2)) («text_of» vertices ends.now) text.old }
+    ensures { text.new ≡ filled (room (length ends.now / 2)) (text_of vertices ends.now) text.old }
 {
     let lines = ends.len() / 2;
     put_frame(text, 0, vertices as u16, lines as u16);
@@ -32,7 +32,7 @@ pub(crate) fn put_text(vertices: usize, ends: &[u16], text: &mut [u8])
 // Puts a frame for each line after the first frame.
 fn put_lines(ends: &[u16], text: &mut [u8])
     requires { Roomy ends.now text.old }
-    ensures { text.new ≡ «after_first» ends.now (length ends.now / 2) text.old }
+    ensures { text.new ≡ after_first ends.now (length ends.now / 2) text.old }
 {
     let lines = ends.len() / 2;
     let mut k = 0;

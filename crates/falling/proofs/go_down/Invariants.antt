@@ -1,0 +1,15 @@
+-- The loop keeps `Descent`: what is above the vertex that b has come to has been passed.
+use Rattle.links.proofs.Outcomes.{torn, holds_of}
+use native.Mathlib.Omega.{arith}
+use Rattle.laws.specs.Lists.{at}
+use Rattle.fork.specs.Inside.{EachTree}
+use Rattle.falling.specs.Down.{Sinking}
+use Rattle.falling.proofs.Descending.{Descent, sinking_line, sinking_end, descent_start, descent_vertex, descent_landing, descent_steps, lengthen_first, lengthen_second, descent_less, descent_more, descent_done}
+use borrow.Author.Rules.{rules}
+use Rattle.falling.proofs.go_down.Given as goal
+
+abbrev pub invariant-loop-v : goal.invariant-loop-v
+invariant-loop-v l = EachTree (λ S. Sinking S l.b l.x l.heights l.parents l.initial.jumps l.initial.pairs l.initial.forks l.initial.groups) (λ S. Descent S l.b l.x l.s l.p l.v l.steps l.initial.groups l.jumps l.pairs l.forks l.groups)
+
+abbrev pub decreases-loop-v : goal.decreases-loop-v
+decreases-loop-v l = at l.heights l.v

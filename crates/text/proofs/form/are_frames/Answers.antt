@@ -1,0 +1,18 @@
+-- `are_frames` computes its definition: the places of the frames passed so far are right.
+use Prim.Native.Nat.{◌+◌, ◌-◌}
+use borrow.Author.Tests.{not-true, not-false}
+use Rattle.text.proofs.Places.{Rights, rights_start, rights_more, rights_no, rights_all}
+use borrow.Author.Rules.{rules}
+use Rattle.text.proofs.form.are_frames.Goals as goal
+
+pub loop-k-init : goal.loop-k-init
+loop-k-init c = search rights_start
+
+pub returns-then-not-is_frame : goal.returns-then-not-is_frame
+returns-then-not-is_frame c = search (rights_no, not-true)
+
+pub loop-k-preserved : goal.loop-k-preserved
+loop-k-preserved c = search (rights_more, not-false)
+
+pub returns : goal.returns
+returns c = search rights_all

@@ -1,0 +1,23 @@
+-- `has_form` computes its definition: the first frame, the length that it asks, and the other frames.
+use borrow.Author.Tests.{not-true}
+use Rattle.text.proofs.Places.{form_short, form_no_first, lines_word, form_no_room, opened, form_last}
+use borrow.Author.Rules.{rules}
+use Rattle.text.proofs.form.has_form.Goals as goal
+
+pub returns-then-text-lt9 : goal.returns-then-text-lt9
+returns-then-text-lt9 c = search form_short
+
+pub returns-then-not-is_frame : goal.returns-then-not-is_frame
+returns-then-not-is_frame c = search (form_no_first, not-true)
+
+pub number_at-lines-requires : goal.number_at-lines-requires
+number_at-lines-requires c = search lines_word
+
+pub returns-then-text-lines : goal.returns-then-text-lines
+returns-then-text-lines c = search form_no_room
+
+pub are_frames-requires : goal.are_frames-requires
+are_frames-requires c = search opened
+
+pub returns : goal.returns
+returns c = search form_last
