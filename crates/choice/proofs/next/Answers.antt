@@ -30,16 +30,16 @@ pub fits-requires : goal.fits-requires
 fits-requires c = gathered_reading _ _ _ _ _ c.group_alone-start.ensures c.if-number-ne0.false c.in_default.is _ c.if-choice-lines.false
 
 pub returns-then-not-fits : goal.returns-then-not-fits
-returns-then-not-fits c = next_unfit _ _ _ _ c.is_oversize.ensures c.if-is_oversize.false _ c.is_odd.ensures c.if-is_odd.false c.if-choice-lines.false _ _ _ c.group_alone-start.ensures c.if-number-ne0.false c.in_default.is _ c.fits2.ensures (not-true _ c.if-not-fits.true) _ c.refused-then-not-fits.ensures
+returns-then-not-fits c = next_unfit _ _ _ _ c.is_oversize.ensures c.if-is_oversize.false _ c.is_odd.ensures c.if-is_odd.false c.if-choice-lines.false _ _ _ c.group_alone-start.ensures c.if-number-ne0.false c.in_default.is _ c.fits.ensures c.if-not-fits.true _ c.refused-then-not-fits.ensures
 
 pub next-requires : goal.next-requires
 next-requires c = gathered_reading _ _ _ _ _ c.group_alone-start.ensures c.if-number-ne0.false c.in_default.is _ c.if-choice-lines.false
 
 pub returns-then-not-next : goal.returns-then-not-next
-returns-then-not-next c = next_last _ _ _ _ c.is_oversize.ensures c.if-is_oversize.false _ c.is_odd.ensures c.if-is_odd.false c.if-choice-lines.false _ _ _ c.group_alone-start.ensures c.if-number-ne0.false c.in_default.is _ c.fits2.ensures (not-false _ c.if-not-fits.false) _ c.next.result c.next.ensures (not-true _ c.if-not-next.true) _ c.refused-then-not-next.ensures
+returns-then-not-next c = next_last _ _ _ _ c.is_oversize.ensures c.if-is_oversize.false _ c.is_odd.ensures c.if-is_odd.false c.if-choice-lines.false _ _ _ c.group_alone-start.ensures c.if-number-ne0.false c.in_default.is _ c.fits.ensures c.if-not-fits.false _ c.next.result c.next.ensures c.if-not-next.true _ c.refused-then-not-next.ensures
 
 pub overflow_sub-lines : goal.overflow_sub-lines
 overflow_sub-lines c = faultless_fits _ _ _ c.group_alone-start.ensures.fault c.if-number-ne0.false
 
 pub returns : goal.returns
-returns c = next_done _ _ _ _ c.is_oversize.ensures c.if-is_oversize.false _ c.is_odd.ensures c.if-is_odd.false c.if-choice-lines.false _ _ _ c.group_alone-start.ensures c.if-number-ne0.false c.in_default.is _ c.fits2.ensures (not-false _ c.if-not-fits.false) _ c.next.result c.next.ensures (not-false _ c.if-not-next.false) _ c.done.ensures (omega arith)
+returns c = next_done _ _ _ _ c.is_oversize.ensures c.if-is_oversize.false _ c.is_odd.ensures c.if-is_odd.false c.if-choice-lines.false _ _ _ c.group_alone-start.ensures c.if-number-ne0.false c.in_default.is _ c.fits.ensures c.if-not-fits.false _ c.next.result c.next.ensures c.if-not-next.false _ c.done.ensures (omega arith)

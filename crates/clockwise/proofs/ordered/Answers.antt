@@ -22,7 +22,7 @@ pub laid-requires : goal.laid-requires
 laid-requires c = let p = c.requires.some_tree.asked in
     let f = c.fanned.ensures _ (order_fannable p) in
     let u = c.raised.ensures _ (order_rooted p) in
-    (order_layable p f u (c.walk.ensures _ [] (order_sets_out p f u)), c.requires.order_len)
+    record { layable = order_layable p f u (c.walk.ensures _ [] (order_sets_out p f u)); order_len = c.requires.order_len }
 
 pub returns : goal.returns
 returns c = λ S p.
