@@ -9,8 +9,7 @@ ghost use Rattle.cornetariel.specs.Face.{packed, Small, OrientC, FirstC, NextC, 
 
 use network::Answer;
 
-#[unsafe(no_mangle)]
-pub extern "C" fn cornetariel_orient(
+pub fn cornetariel_orient(
     vertices: usize,
     ends: &[u16],
     kinds: &mut [u8],
@@ -21,8 +20,7 @@ pub extern "C" fn cornetariel_orient(
     pack(search::orient(vertices, ends, kinds, heights))
 }
 
-#[unsafe(no_mangle)]
-pub extern "C" fn cornetariel_first(
+pub fn cornetariel_first(
     vertices: usize,
     ends: &[u16],
     choice: &mut [u8],
@@ -35,15 +33,13 @@ pub extern "C" fn cornetariel_first(
     pack(choice::first(vertices, ends, choice, ring, kinds))
 }
 
-#[unsafe(no_mangle)]
-pub extern "C" fn cornetariel_next(vertices: usize, ends: &[u16], choice: &mut [u8]) -> u64
+pub fn cornetariel_next(vertices: usize, ends: &[u16], choice: &mut [u8]) -> u64
     ensures { NextC vertices ends.now choice.old result choice.new }
 {
     pack(choice::next(vertices, ends, choice))
 }
 
-#[unsafe(no_mangle)]
-pub extern "C" fn cornetariel_draw(
+pub fn cornetariel_draw(
     vertices: usize,
     ends: &[u16],
     choice: &[u8],
@@ -57,15 +53,13 @@ pub extern "C" fn cornetariel_draw(
     pack(drawing::draw(vertices, ends, choice, order, mesh, sizes))
 }
 
-#[unsafe(no_mangle)]
-pub extern "C" fn cornetariel_read(text: &[u8], ends: &mut [u16]) -> u64
+pub fn cornetariel_read(text: &[u8], ends: &mut [u16]) -> u64
     ensures { ReadC text.now ends.old result ends.new }
 {
     pack(text::read(text, ends))
 }
 
-#[unsafe(no_mangle)]
-pub extern "C" fn cornetariel_write(vertices: usize, ends: &[u16], text: &mut [u8]) -> u64
+pub fn cornetariel_write(vertices: usize, ends: &[u16], text: &mut [u8]) -> u64
     ensures { WriteC vertices ends.now text.old result text.new }
 {
     pack(text::write(vertices, ends, text))
