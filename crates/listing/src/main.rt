@@ -6,14 +6,32 @@
 mod page;
 mod pieces;
 
-use libc::{STDIN_FILENO, STDOUT_FILENO};
+ghost use Rattle.std.specs.Prelude.{◌≤◌, IfOk, length};
+
+use std::io;
+use std::io::{Read, Write};
 
 // One byte more than the longest text that is looked at, so that a longer one is seen to be longer; and room for the longest page: a first line, 64
 // choices of 2,048 back lines, and the last answer.
-fn main() {
+fn main(rt: HostRuntime) -> io::Result<()> {
     let mut input = [0u8; 18451];
     let mut output = [0u8; 262222];
-    let got = io::read_full(STDIN_FILENO, &mut input);
+    let got = read_full(&mut rt.stdin(), &mut input)?;
     let bytes = page::print(&input[..got], &mut output);
-    io::write_all(STDOUT_FILENO, &output[..bytes]);
+    io::writer(&rt).write_all(&output[..bytes])
+}
+
+// Reads until the buffer is full or the text ends, and answers how many bytes came.
+fn read_full<R: Read>(from: &mut R, into: &mut [u8]) -> io::Result<usize>
+    ensures { IfOk result (λ got. got ≤ length into.new) }
+{
+    let mut got = 0;
+    while got < into.len() {
+        let more = from.read(&mut into[got..])?;
+        if more == 0 {
+            break;
+        }
+        got += more;
+    }
+    Ok(got)
 }

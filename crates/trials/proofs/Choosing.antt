@@ -60,6 +60,9 @@ Sides (b ∷ backs) (x ∷ l) = Side b x × Sides backs l
 scan_of : (backs : List Bool) (test : List ℕ → Bool) → scan backs test ≡ true → (l : List ℕ) → Sides backs l → test l ≡ true
 unfolding scan
 scan_of [] test t [] s = t
+scan_of [] test t (x ∷ l) s = absurd s
+scan_of (false ∷ backs) test t [] s = absurd s
+scan_of (true ∷ backs) test t [] s = absurd s
 scan_of (false ∷ backs) test t (x ∷ l) s = subst (λ (y : ℕ). test (y ∷ l) ≡ true) (sym s.0) (scan_of backs (λ r. test (none ∷ r)) t l s.1)
 scan_of (true ∷ backs) test t (x ∷ l) s =
     let q = both_of t in

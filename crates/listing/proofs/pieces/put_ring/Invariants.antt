@@ -1,0 +1,11 @@
+-- `put_ring` goes over the steps: each adds its line.
+use Prim.Native.Nat.{◌-◌}
+use Rattle.listing.proofs.Putting.{Ringing, size_fits, size_small, ringing_none, line_in, step_fits, ringing_step, ring_put, ring_long}
+use borrow.Author.Rules.{rules}
+use Rattle.listing.proofs.pieces.put_ring.Given as goal
+
+abbrev pub invariant-loop-i : goal.invariant-loop-i
+invariant-loop-i l = Ringing l.size l.lines l.kinds l.initial.out l.initial.to l.out l.to l.i
+
+abbrev pub decreases-loop-i : goal.decreases-loop-i
+decreases-loop-i l = l.size - l.i
