@@ -23,7 +23,7 @@ build() {
         mv "$program.new" "$program" || fail "the program was not built"
 }
 
-need_proved "$archive" staticlib cornetariel
+need_proved "$archive" cornetariel
 if ! is_current; then
     lock
     if ! is_current; then build; fi

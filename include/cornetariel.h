@@ -5,7 +5,7 @@
  * six calls. docs/RULES.md is the whole of the rules: it fixes every number that a call returns and every place
  * that it writes, but for which ring is shown. The header needs C99 or C++11.
  *
- * The archive, target/staticlib/libcornetariel.a, comes from `rt staticlib cornetariel`. It holds x86-64 code
+ * The archive, target/staticlib/libcornetariel.a, comes from `examples/archive`. It holds x86-64 code
  * and asks of the C library memcpy and memset, and nothing that allocates, prints or exits.
  *
  *

@@ -12,6 +12,7 @@ if ! command -v rustc >/dev/null; then
     { apt-get update && apt-get install -y --no-install-recommends rustc; } >/dev/null 2>&1 || fail "rustc could not be installed"
 fi
 . "$tests/machine.sh"
+. "$tests/make.sh"
 mkdir -p "$built" || exit 2
 need_compiler "$built"
 
@@ -20,7 +21,12 @@ few='' few_pages=''
 if [ -n "$emulator" ]; then few='--every 8' few_pages='--every 80'; fi
 
 build_archive() {
-    (cd "$root" && flock crates.txt rt staticlib cornetariel) || fail "the library was not proved, so there is nothing to compare"
+    (flock 9 && make_proved cornetariel) 9<"$root/crates.txt" || fail "the library was not proved, so there is nothing to compare"
+}
+
+build_listing() {
+    (flock 9 && make_proved listing) 9<"$root/crates.txt" >"$built/listing.log" 2>&1 ||
+        fail "the listing program was not proved; see $built/listing.log"
 }
 
 build_driver() { # PROGRAM [OPTION...]

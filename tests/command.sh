@@ -25,6 +25,7 @@ lost() {
 
 without_rt=yes
 . "$root/tests/machine.sh"
+. "$root/tests/make.sh"
 proofs=$root/target/proved
 
 # Shows what the head of the command's script says.
@@ -51,7 +52,7 @@ begin() { # WORDS
 }
 
 sum_of_sources() {
-    (cd "$root" && find crates crates.txt -type f -exec sha256sum {} + | LC_ALL=C sort | sha256sum)
+    (cd "$root" && find crates crates.txt -name out -prune -o -type f -exec sha256sum {} + | LC_ALL=C sort | sha256sum)
 }
 
 # Sees whether FILE is what was proved last, of these sources and by this kit. Where there is no kit, there is none that could have changed.
@@ -90,55 +91,54 @@ count_crates() { # NAME
             for (i = split(under[crate], list, " "); i > 0; i--) take(list[i])
         }
         { sub(/#.*/, "") }
-        split($0, part, ":") == 2 { under[part[1]] = part[2] }
+        split($0, part, ":") == 2 { sub(/ .*/, "", part[1]); under[part[1]] = part[2] }
         END { take(name); print count }' "$root/crates.txt"
 }
 
-# Passes on what rt prints, and says of each crate when it is proved. Those that have not changed are counted in silence.
+# Passes on what rt prints, and says of each crate when it is proved. Of those that have not changed rt prints nothing.
 show_proofs() { # NUMBER of crates
-    proved=0
+    proved=0 crate=''
     while IFS= read -r line; do
         printf '%s\n' "$line"
         case $line in
-        'rt: '*' proved (unchanged '*) proved=$((proved + 1)) ;;
-        'rt: '*' proved ('*)
-            proved=$((proved + 1))
-            say "$proved of $1: ${line#rt: }"
+        'crate '*': modules loaded='*)
+            crate=${line#crate }
+            crate=${crate%%:*}
             ;;
-        'rt: '*) say "${line#rt: }" ;;
+        'logic=proved '*)
+            proved=$((proved + 1))
+            say "$crate proved; so far $proved, of $1 at the most"
+            ;;
+        *': not proved'* | 'rt: the library '*' did not build'*) say "$line" ;;
         esac
     done
 }
 
-# Has `rt VERB NAME` make FILE where it is not there as it was proved last.
-need_proved() { # FILE VERB NAME
-    if is_proved "$1" "$3"; then return; fi
-    command -v rt >/dev/null || fail "$3 has to be proved and built, and rt, the Rattle toolchain, is not on this machine; put it on the PATH"
+# Has FILE made of NAME (tests/make.sh) where it is not there as it was proved last.
+need_proved() { # FILE NAME
+    if is_proved "$1" "$2"; then return; fi
+    command -v rt >/dev/null || fail "$2 has to be proved and built, and rt, the Rattle toolchain, is not on this machine; put it on the PATH"
     lock
     # While this one waited, another may have done it.
-    if ! is_proved "$1" "$3"; then
+    if ! is_proved "$1" "$2"; then
         prove "$@"
     fi
     unlock
 }
 
-prove() { # FILE VERB NAME
-    log=$proofs/$3.log
-    all=$(count_crates "$3")
-    say "proving $3 and building it: $all crates, of which those that have not changed are passed over; all of them take some minutes; log: $log"
+prove() { # FILE NAME
+    log=$proofs/$2.log
+    all=$(count_crates "$(crate_of "$2")")
+    say "proving $2 and building it: $all crates, of which those that have not changed are passed over; all of them take some minutes; log: $log"
     sources=$(sum_of_sources)
-    # rt does not look whether what it built is still there, and whole.
-    if [ ! -f "$root/$1" ] || { [ -r "$proofs/$3" ] && [ "$(sed -n 3p "$proofs/$3")" != "$(sha256sum <"$root/$1")" ]; }; then
-        rm -f "$root/target/stamp/$3"
-    fi
-    rm -f "$proofs/$3" "$proofs/status"
+    rm -f "$proofs/$2" "$proofs/status"
     # Nothing here may read standard input: it holds the network.
     {
-        (cd "$root" && rt "$2" "$3") </dev/null 2>&1
+        make_proved "$2" 2>&1
         echo $? >"$proofs/status"
     } | show_proofs "$all" >"$log"
-    [ "$(cat "$proofs/status")" = 0 ] || fail "$3 was not proved; see $log"
+    [ "$(cat "$proofs/status")" = 0 ] || fail "$2 was not proved; see $log"
     # Sources that changed meanwhile are proved the next time.
-    { rt version && echo "$sources" && sha256sum <"$root/$1"; } >"$proofs/new" && mv "$proofs/new" "$proofs/$3" ||
-        fail "$3 was proved, but that could not be noted in $proofs"
+    { rt version && echo "$sources" && sha256sum <"$root/$1"; } >"$proofs/new" && mv "$proofs/new" "$proofs/$2" ||
+        fail "$2 was proved, but that could not be noted in $proofs"
 }

@@ -1,7 +1,7 @@
 -- What the beginning leaves: the tables of a finished search, and the groups of the tree in them.
 use mathlib.Core.List.{List}
 use mathlib.Core.Path.{◌≡◌, sym, ap, subst}
-use Prim.Native.Nat.{ℕ, ◌+◌, ◌-◌, ◌/◌, ◌≤◌, ◌<◌}
+use Prim.Native.Nat.{ℕ, ◌+◌, ◌-◌, ◌/◌, ◌≤◌}
 use native.Mathlib.Omega.{arith}
 use lib.ListN.{length}
 use Rattle.network.specs.Network.{network}

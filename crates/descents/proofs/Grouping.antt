@@ -1,11 +1,10 @@
 -- The whole: from the tables of a finished search to groups in flat tables.
 use mathlib.Core.Bool.{true, false}
 use mathlib.Core.List.{List}
-use mathlib.Core.Logic.{◌≢◌}
 use mathlib.Core.Path.{◌≡◌, refl}
 use Prim.Native.Nat.{ℕ, ◌≤◌, ◌<◌}
 use native.Mathlib.Omega.{arith}
-use lib.ListN.{get_or, length}
+use lib.ListN.{get_or}
 use borrow.Author.Tests.{not-true}
 use Rattle.laws.proofs.Cases.{true_false}
 use Rattle.laws.proofs.Tests.{both_of}

@@ -1,7 +1,6 @@
 -- From the two walks to the groups: what the first ties stays tied in the second, and the two together tie every link. And from pointers to flat tables.
-use mathlib.Core.List.{List}
 use mathlib.Core.Path.{◌≡◌}
-use Prim.Native.Nat.{ℕ, ◌≤◌, ◌<◌}
+use Prim.Native.Nat.{ℕ, ◌≤◌}
 use native.Mathlib.Omega.{arith}
 use Rattle.laws.proofs.Cases.{cases}
 use Rattle.tree.specs.Tree.{Tree}
@@ -12,11 +11,10 @@ use Rattle.fork.specs.Fork.{Fork}
 use Rattle.fork.specs.Link.{Link, to_top, tops, to_bottom, turned, Held, Overlap}
 use Rattle.fork.proofs.Links.{overlap_tree, overlap_turned, link_ends}
 use Rattle.fork.proofs.Rule.{fork_turned}
-use Rattle.groups.specs.Groups.{Tables, columns, pointed}
+use Rattle.groups.specs.Groups.{Tables}
 use Rattle.groups.specs.Calls.{Alike}
-use Rattle.links.specs.Inside.{Closed, Sound, Outcome, obeyed, unkept}
+use Rattle.links.specs.Inside.{Closed}
 use Rattle.links.specs.declared.Tie.{Tie}
-use Rattle.links.specs.declared.Tie.TheVariants.{Holds, Tears}
 use Rattle.links.proofs.Closing.{closed_turned, closed_alike}
 use Rattle.links.proofs.Tying.{together_alike, unkept_alike}
 use Rattle.descents.specs.Inside.{Sorted, all_kept, one_torn}

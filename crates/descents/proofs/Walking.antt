@@ -25,7 +25,7 @@ use Rattle.spans.proofs.Knowing.{new_unheld}
 use Rattle.rising.specs.Inside.{Rising, Risen}
 use Rattle.lows.specs.Inside.{Bottomed, Plumbed, Comparable, Compared}
 use Rattle.falling.specs.Inside.{Falling, Fallen}
-use Rattle.descents.specs.Inside.{Sorted, all_kept, one_torn, Walkable, Tied}
+use Rattle.descents.specs.Inside.{all_kept, one_torn, Walkable, Tied}
 use Rattle.descents.proofs.Sorting.{links_closed}
 
 holds : Tie → Bool

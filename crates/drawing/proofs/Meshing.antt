@@ -15,7 +15,7 @@ use Rattle.laws.specs.Lists.{from, upto, at}
 use Rattle.laws.specs.Orbits.{walk_number, walks}
 use Rattle.laws.proofs.Cases.{cases, lt_or}
 use Rattle.laws.proofs.Counting.{count_same, count_all}
-use Rattle.laws.proofs.Orbits.{In, Turn, count_few, number_below}
+use Rattle.laws.proofs.Orbits.{In, Turn, number_below}
 use Rattle.laws.proofs.Agreeing.{turn_agree, number_agree, walks_agree}
 use Rattle.laws.proofs.Places.{from_snoc}
 use Rattle.network.specs.Network.{Network, network, network_of}

@@ -14,7 +14,7 @@ use Rattle.tree.specs.Tree.{Tree, tree_of}
 use Rattle.tree.specs.Searched.{Searched}
 use Rattle.tree.specs.Words.{Above}
 use Rattle.search.specs.Machine.{tree_in}
-use Rattle.search.specs.Inside.{Search, search_of, Explored, Faulted, searched as searched_of}
+use Rattle.search.specs.Inside.{Search, search_of, Faulted}
 use Rattle.search.proofs.Calls.{explored, explore_faulted}
 use Rattle.fork.specs.Inside.{Known, Tabled}
 use Rattle.fork.proofs.Knowing.{known_finished, known_parents}

@@ -1,6 +1,5 @@
 -- The meshes that draw leaves are closed walks: the order of a choice is whole, so the step from a direction to the next is one-to-one, and the buffer of
 -- meshes has for each direction the number of its walk.
-use mathlib.Core.Bool.{true}
 use mathlib.Core.List.{List, map}
 use mathlib.Core.Logic.{inl, inr}
 use mathlib.Core.Path.{◌≡◌, sym, ap, ◌∙◌}

@@ -20,7 +20,6 @@ use Rattle.fork.proofs.Found.{way_high, way_low}
 use Rattle.fork.proofs.Links.{low_back, high_back}
 use Rattle.groups.specs.Groups.{pointed}
 use Rattle.links.specs.Inside.{Closed, Sound, StillClosed, Outcome, obeyed}
-use Rattle.links.specs.declared.Tie.{Tie}
 use Rattle.links.specs.declared.Tie.TheVariants.{Holds}
 use Rattle.links.proofs.Closing.{closed_same, closed_after}
 use Rattle.laws.proofs.Cases.{true_false}

@@ -1,9 +1,8 @@
 -- What functions inside ask of each other. A reader of the calls' statements need not believe any of it.
-use Rattle.std.specs.Prelude.{List, ◌≡◌, ℕ, ◌+◌, ◌≤◌, ◌<◌, length}
-use Rattle.laws.specs.Lists.{at}
+use Rattle.std.specs.Prelude.{List, ◌≡◌, ℕ}
 use Rattle.side.specs.Sides.{same, different}
 use Rattle.tree.specs.Tree.{Tree}
-use Rattle.tree.specs.Words.{TreeLine, Return}
+use Rattle.tree.specs.Words.{TreeLine}
 use Rattle.fork.specs.Ends.{top}
 use Rattle.fork.specs.Fork.{Fork}
 use Rattle.fork.specs.Link.{Held, Overlap}

@@ -11,9 +11,8 @@ use Rattle.laws.proofs.Cases.{cases, bool}
 use Rattle.laws.proofs.Dictionary.{first_agree}
 use Rattle.groups.specs.Constraints.{Constraints, Satisfies}
 use Rattle.groups.specs.Groups.{columns, pointed, Grouped}
-use Rattle.groups.specs.Calls.{Pointing, Started, Flattened, Reading, Copied, Advanced, Stuck}
+use Rattle.groups.specs.Calls.{Pointing, Started, Reading, Copied, Advanced, Stuck}
 use Rattle.groups.proofs.Groups.{None, grouped_none}
-use Rattle.groups.proofs.Alike.{grouped_alike}
 use Rattle.groups.proofs.Choosing.{parity_first, parity_obeys, turned_next, no_pivot_last}
 
 -- The start

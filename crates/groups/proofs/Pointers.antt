@@ -10,7 +10,6 @@ use mathlib.Core.Path.{◌≡◌, refl, sym, ◌∙◌, ap}
 use Prim.Native.Nat.{ℕ, zero, suc, ◌+◌, ◌%◌, ◌≤◌, ◌<◌}
 use native.Mathlib.Omega.{arith}
 use borrow.Author.Tests.{eq-eqb, ne_eqb}
-use Rattle.laws.specs.Lists.{at}
 use Rattle.laws.proofs.Cases.{cases, eq_or}
 use Rattle.groups.specs.Constraints.{Even}
 use Rattle.groups.specs.Groups.{root, facing, columns, pointed, PutBelow, Relabel, Relabelled}

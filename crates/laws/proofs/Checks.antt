@@ -1,6 +1,6 @@
 -- A check decides one way only: whatever follows from two like outcomes follows from two results of one check; and a check of the same, said otherwise, has
 -- the same outcome.
-use mathlib.Core.Logic.{◌⊎◌, inl, inr}
+use mathlib.Core.Logic.{inl, inr}
 use Rattle.laws.specs.Checks.{Check}
 
 pub check_once : {P A A' B B' C : Type 0} → (A → A' → C) → (B → B' → C) → Check P A B → Check P A' B' → C

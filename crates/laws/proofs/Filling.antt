@@ -1,12 +1,12 @@
 -- A loop that lays the first numbers of a table over a buffer: after i turns the first i are laid.
-use mathlib.Core.List.{List, [], ◌∷◌, ◌++◌, append_assoc}
-use mathlib.Core.Path.{◌≡◌, refl, sym, ap, ◌∙◌}
-use Prim.Native.Nat.{ℕ, zero, suc, ◌+◌, ◌≤◌, ◌<◌}
+use mathlib.Core.List.{List}
+use mathlib.Core.Path.{◌≡◌, refl, ap, ◌∙◌}
+use Prim.Native.Nat.{ℕ, ◌+◌, ◌≤◌, ◌<◌}
 use native.Mathlib.Nat.{zero-add}
 use native.Mathlib.Numerals.{add-one}
 use native.Mathlib.Omega.{arith}
-use lib.ListN.{length, get_or, set, take, drop, length-append, length-take, length-drop, length-set}
-use lib.Seq.{paste, paste-suc, length-take-le}
+use lib.ListN.{length, get_or, set, take, drop, length-append, length-drop, length-set}
+use lib.Seq.{paste-suc, length-take-le}
 use Rattle.laws.specs.Lists.{filled}
 
 pub record Filling (table old : List ℕ) (n i : ℕ) (buffer : List ℕ) : Type 0 where

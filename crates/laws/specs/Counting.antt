@@ -1,5 +1,5 @@
 -- How often, and how many.
-use Rattle.std.specs.Prelude.{Bool, true, false, cond, List, [], ◌∷◌, ℕ, zero, suc, ◌+◌, eqb}
+use Rattle.std.specs.Prelude.{Bool, true, false, List, [], ◌∷◌, ℕ, zero, suc, ◌+◌, eqb}
 
 abbrev pub bit : Bool → ℕ
 bit true = 1

@@ -1,12 +1,12 @@
 -- What is closed stays closed when two groups are joined. Lines with one leader go over together or stay together, and turn alike.
 -- And `Closed` is a congruence: a line with itself, turned round, put together with the kinds added.
 use mathlib.Core.List.{List}
-use mathlib.Core.Path.{◌≡◌, refl, sym, ◌∙◌}
-use Prim.Native.Nat.{ℕ, ◌+◌, ◌%◌, ◌<◌}
+use mathlib.Core.Path.{refl, sym, ◌∙◌}
+use Prim.Native.Nat.{ℕ, ◌<◌}
 use native.Mathlib.Omega.{arith}
 use Rattle.laws.proofs.Cases.{cases, eq_or}
 use Rattle.tree.specs.Tree.{Tree}
-use Rattle.groups.specs.Groups.{Tables, pointed}
+use Rattle.groups.specs.Groups.{Tables}
 use Rattle.groups.specs.Calls.{Alike, Joined}
 use Rattle.links.specs.Inside.{Closed, StillClosed}
 

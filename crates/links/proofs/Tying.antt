@@ -3,13 +3,12 @@
 use mathlib.Core.List.{List}
 use mathlib.Core.Logic.{inl, inr}
 use mathlib.Core.Path.{◌≡◌, refl, sym, ◌∙◌}
-use Prim.Native.Nat.{ℕ, ◌≤◌, ◌<◌}
+use Prim.Native.Nat.{ℕ, ◌≤◌}
 use native.Mathlib.Omega.{arith}
 use Rattle.laws.proofs.Cases.{cases}
 use Rattle.tree.specs.Tree.{Tree}
 use Rattle.tree.specs.Returns.{backb}
 use Rattle.fork.specs.Link.{Link}
-use Rattle.fork.specs.Inside.{SomeTree, EachTree}
 use Rattle.fork.proofs.Rule.{back_yes}
 use Rattle.fork.proofs.Links.{link_ends}
 use Rattle.groups.specs.Constraints.{Constraints, More, Sided}
@@ -19,8 +18,7 @@ use Rattle.groups.specs.declared.Joining.{Joining}
 use Rattle.groups.specs.declared.Joining.TheVariants.{Agrees, Conflicts, Joins}
 use Rattle.groups.proofs.Groups.{None}
 use Rattle.groups.proofs.Alike.{after_agreeing, after_joining, grouped_alike}
-use Rattle.links.specs.Inside.{Closed, Taken, Together, Sound, Unkept, Outcome, obeyed, unkept, Tieable}
-use Rattle.links.specs.declared.Tie.{Tie}
+use Rattle.links.specs.Inside.{Closed, Taken, Together, Unkept, Outcome, obeyed, unkept, Tieable}
 use Rattle.links.specs.declared.Tie.TheVariants.{Holds, Tears}
 use Rattle.links.proofs.Closing.{closed_alike, closed_joined}
 

@@ -2,8 +2,8 @@
 use mathlib.Core.Bool.{true, false}
 use mathlib.Core.List.{List}
 use mathlib.Core.Logic.{inl, inr}
-use mathlib.Core.Path.{◌≡◌, refl, sym, ◌∙◌, ap, subst}
-use Prim.Native.Nat.{ℕ, ◌*◌, ◌/◌, ◌≤◌, ◌<◌}
+use mathlib.Core.Path.{◌≡◌, refl, sym, ◌∙◌, ap}
+use Prim.Native.Nat.{ℕ, ◌*◌, ◌≤◌, ◌<◌}
 use native.Mathlib.Omega.{arith}
 use borrow.Author.Tests.{lt-ltb, le-ltb, ltb-true}
 use lib.Dec.{ltb}
@@ -16,7 +16,7 @@ use Rattle.network.specs.Network.{network, Connected}
 use Rattle.network.specs.Numbers.{refused, Untouched, oversize, mispaired, Accepted}
 use Rattle.network.specs.declared.Answer.{Answer}
 use Rattle.network.proofs.Checks.{sized}
-use Rattle.text.specs.Text.{vertices_in, lines_in, ends_in, has_form}
+use Rattle.text.specs.Text.{vertices_in, lines_in, ends_in}
 use Rattle.text.specs.Calls.{Read}
 use Rattle.text.proofs.TextBack.{length_ends_in}
 use Rattle.text.proofs.Accepted.{take_filled, not_odd, Sound, sound_inside, Accepts, Took, read_done}

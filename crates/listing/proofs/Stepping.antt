@@ -1,25 +1,23 @@
 -- What the loop over the choices has put: a text that, with any text of the choices still to come, is the text of them all. Each turn adds the line of the
 -- choice at hand; then next choice says whether there is another.
-use mathlib.Core.Bool.{Bool, true, false, not}
+use mathlib.Core.Bool.{not}
 use mathlib.Core.List.{List, [], ◌∷◌, ◌++◌, append_assoc}
 use mathlib.Core.Logic.{◌⊎◌, inl, inr}
 use mathlib.Core.Path.{◌≡◌, refl, sym, ◌∙◌, ap, subst}
-use Prim.Native.Nat.{ℕ, zero, suc, ◌+◌, ◌-◌, ◌*◌, ◌/◌, ◌≤◌, ◌<◌}
+use Prim.Native.Nat.{ℕ, suc, ◌+◌, ◌-◌, ◌*◌, ◌≤◌, ◌<◌}
 use native.Mathlib.Omega.{arith}
 use borrow.Author.Tests.{eq-eqb, ne_eqb}
-use lib.Dec.{eqb}
 use lib.ListN.{length, length-append}
 use lib.Seq.{sets, length-sets}
 use Rattle.laws.specs.Checks.{Check}
 use Rattle.laws.specs.Lists.{upto, at}
-use Rattle.laws.specs.Sorting.{gather}
 use Rattle.laws.specs.Dictionary.{Next}
 use Rattle.laws.proofs.Cases.{cases, bool}
-use Rattle.laws.proofs.Lists.{All, all_map, from_all}
+use Rattle.laws.proofs.Lists.{all_map, from_all}
 use Rattle.laws.proofs.Gathering.{gather_same}
 use Rattle.network.specs.Network.{Network, network}
 use Rattle.network.specs.declared.Answer.{Answer}
-use Rattle.network.specs.Numbers.{Untouched, Accepted}
+use Rattle.network.specs.Numbers.{Untouched}
 use Rattle.network.proofs.Checks.{sized}
 use Rattle.tree.specs.Returns.{backb}
 use Rattle.search.specs.Machine.{tree_in}
@@ -28,7 +26,6 @@ use Rattle.side.specs.Sides.{none}
 use Rattle.choice.specs.Choice.{Proper, Outdone}
 use Rattle.choice.specs.Calls.{Stepped, NextChoice}
 use Rattle.runs.proofs.Outcomes.{next_says}
-use Rattle.digits.specs.Digits.{digits}
 use Rattle.listing.specs.Page.{answer_line, side_digits, choice_line, ChoiceLines}
 use Rattle.listing.specs.Inside.{Put, has_side, Listable, PutChoices}
 use Rattle.listing.proofs.Putting.{put_more, answer_long, line_short}

@@ -1,5 +1,5 @@
 -- What the functions of the listing program ask of each other. A reader of what is printed need not believe any of it.
-use Rattle.std.specs.Prelude.{Bool, not, cond, List, [], ◌≡◌, ℕ, ◌+◌, ◌*◌, ◌/◌, ◌≤◌, ◌<◌, eqb, length, take}
+use Rattle.std.specs.Prelude.{Bool, not, cond, List, [], ◌≡◌, ℕ, ◌+◌, ◌/◌, ◌≤◌, eqb, length, take}
 use Rattle.std.proofs.lemmas.List.Edits.{sets}
 use Rattle.laws.specs.Lists.{at}
 use Rattle.network.specs.Numbers.{Accepted}
@@ -9,7 +9,7 @@ use Rattle.network.specs.Network.{network}
 use Rattle.search.specs.Machine.{tree_in}
 use Rattle.search.specs.Orient.{back_lines}
 use Rattle.choice.specs.Choice.{Proper}
-use Rattle.listing.specs.Page.{Prints, Shows, ChoiceLines}
+use Rattle.listing.specs.Page.{ChoiceLines}
 
 -- A piece was put at a place of a buffer, and r is the place after it.
 pub record Put (old : List ℕ) (place : ℕ) (piece : List ℕ) (r : ℕ) (new : List ℕ) : Type 0 where

@@ -7,7 +7,6 @@ use native.Mathlib.Numerals.{add-one}
 use native.Mathlib.Omega.{arith}
 use lib.ListN.{length, get_or, set, length-set}
 use lib.Seq.{get_or-set_same, get_or-set_other, get_or-drop, get_or-take, length-slice}
-use Rattle.laws.specs.Counting.{many}
 use Rattle.laws.proofs.Cases.{cases, eq_or, lt_or}
 use Rattle.laws.proofs.Orbits.{In}
 use Rattle.laws.proofs.Places.{place}

@@ -1,20 +1,18 @@
 -- The checks 2 to 4 as the code makes them, and the checks one after the other.
 use mathlib.Core.Bool.{Bool, true, false}
 use mathlib.Core.List.{List}
-use mathlib.Core.Logic.{◌⊎◌, inl, inr, ◌≢◌}
-use mathlib.Core.Path.{◌≡◌, refl, sym, ap, ◌∙◌}
+use mathlib.Core.Logic.{inl, inr, ◌≢◌}
+use mathlib.Core.Path.{◌≡◌, refl, sym, ◌∙◌}
 use Prim.Native.Nat.{ℕ, ◌+◌, ◌*◌, ◌/◌, ◌%◌, ◌≤◌, ◌<◌}
 use native.Mathlib.Omega.{arith}
-use lib.Dec.{eqb, ltb, leb}
+use lib.Dec.{ltb}
 use lib.ListN.{get_or, length}
-use borrow.Author.Tests.{eq-eqb, ne_eqb, lt-ltb, le-ltb, le-leb, lt-leb, eqb-true, eqb-false, ltb-false, leb-false}
-use Rattle.laws.specs.Tests.{either, any}
-use Rattle.laws.specs.Checks.{Check}
-use Rattle.laws.proofs.Cases.{cases, bool, true_false, eq_or}
-use Rattle.laws.proofs.Tests.{either_first, either_second, either_no, either_neither, any_yes, any_no, any_none}
-use Rattle.network.specs.Network.{Network, network, first, second, Connected}
-use Rattle.network.specs.Numbers.{oversize, odd, astray, looped, mispaired, Formed, Checked, Sifted}
-use Rattle.network.specs.Inside.{Paired, Fit}
+use borrow.Author.Tests.{eq-eqb, ne_eqb, lt-ltb, le-ltb, le-leb, lt-leb, eqb-false, ltb-false, leb-false}
+use Rattle.laws.specs.Tests.{either}
+use Rattle.laws.proofs.Cases.{cases, true_false, eq_or}
+use Rattle.laws.proofs.Tests.{either_first, either_second, either_neither, any_yes, any_no, any_none}
+use Rattle.network.specs.Numbers.{oversize, odd, astray, mispaired, Sifted}
+use Rattle.network.specs.Inside.{Paired}
 
 -- 2
 

@@ -1,5 +1,5 @@
 -- What functions inside ask of each other. A reader of the calls' statements need not believe any of it.
-use Rattle.std.specs.Prelude.{List, ◌≡◌, ℕ, ◌+◌, ◌*◌, ◌/◌, ◌≤◌, ◌<◌, get_or, length}
+use Rattle.std.specs.Prelude.{List, ◌≡◌, ℕ, ◌*◌, ◌/◌, ◌≤◌, ◌<◌, get_or, length}
 use Rattle.network.specs.Network.{Network, first, second}
 
 -- The ends come in pairs of vertex numbers, not more than the limit.

@@ -1,5 +1,5 @@
 -- A network: its vertices, its lines, the paths along them. (docs/RULES.md, "Networks".)
-use Rattle.std.specs.Prelude.{Bool, true, false, cond, List, ◌≡◌, ℕ, ◌+◌, ◌*◌, ◌/◌, ◌≤◌, ◌<◌, eqb, get_or, length}
+use Rattle.std.specs.Prelude.{Bool, true, cond, List, ◌≡◌, ℕ, ◌+◌, ◌*◌, ◌/◌, ◌<◌, eqb, get_or, length}
 use Rattle.laws.specs.Tests.{both, either}
 
 -- So many vertices, so many lines, and two ends for each line, one after the other.

@@ -1,8 +1,8 @@
 -- The numbered refusals that a network can meet, in the order of their numbers. (docs/RULES.md, "The numbers".)
-use Rattle.std.specs.Prelude.{Bool, true, false, List, ◌≡◌, ℕ, ◌+◌, ◌*◌, ◌/◌, ◌%◌, ◌≤◌, ◌<◌, eqb, ltb, leb, get_or, length}
+use Rattle.std.specs.Prelude.{Bool, true, false, List, ◌≡◌, ℕ, ◌/◌, ◌%◌, eqb, ltb, leb, get_or, length}
 use Rattle.laws.specs.Tests.{either, any}
 use Rattle.laws.specs.Checks.{Check}
-use Rattle.network.specs.Network.{Network, network, first, second, joins, Connected}
+use Rattle.network.specs.Network.{network, first, second, joins, Connected}
 use Rattle.network.specs.declared.Answer.{Answer}
 
 -- What a refusal answers: its number, and no counts.

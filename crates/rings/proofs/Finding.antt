@@ -1,6 +1,5 @@
 -- The chain of joinings and the ring, as the code finds them.
 use mathlib.Core.List.{List}
-use mathlib.Core.Path.{refl}
 use Prim.Native.Nat.{ℕ}
 use native.Mathlib.Omega.{arith}
 use lib.ListN.{replicate, length-replicate, get_or-replicate}

@@ -1,6 +1,6 @@
 -- How a chain of joinings between two lines of a group is found, in steps that the functions tell each other. A reader of the calls' statements need
 -- not believe any of it: what a ring is stands in Ring.antt.
-use Rattle.std.specs.Prelude.{cond, List, ◌⊎◌, ◌≡◌, ℕ, suc, ◌+◌, ◌*◌, ◌/◌, ◌%◌, ◌≤◌, ◌<◌, eqb, length}
+use Rattle.std.specs.Prelude.{cond, List, ◌⊎◌, ◌≡◌, ℕ, suc, ◌*◌, ◌/◌, ◌%◌, ◌≤◌, ◌<◌, eqb, length}
 use Rattle.laws.specs.Lists.{at}
 use Rattle.laws.specs.Chains.{Chained}
 use Rattle.groups.specs.Groups.{Tables, columns, Joins, Way}

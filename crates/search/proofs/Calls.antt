@@ -1,19 +1,16 @@
 -- What `explore` and `orient` return, one lemma for each place where they do; and that two results that orient's statement allows are equal.
 use mathlib.Core.Bool.{Bool, true, false}
 use mathlib.Core.List.{List}
-use mathlib.Core.Logic.{◌⊎◌, inl, inr, ◌≢◌}
-use mathlib.Core.Path.{◌≡◌, refl, sym, ap, ◌∙◌, subst}
-use Prim.Native.Nat.{ℕ, ◌+◌, ◌*◌, ◌-◌, ◌/◌, ◌≤◌, ◌<◌}
+use mathlib.Core.Path.{◌≡◌, refl, sym, ap, ◌∙◌}
+use Prim.Native.Nat.{ℕ, ◌+◌, ◌-◌, ◌/◌, ◌≤◌, ◌<◌}
 use native.Mathlib.Omega.{arith}
-use lib.Dec.{ltb}
 use lib.ListN.{length}
 use borrow.Author.Tests.{lt-ltb, le-ltb}
 use Rattle.laws.specs.Lists.{filled}
 use Rattle.laws.specs.Tests.{either}
-use Rattle.laws.proofs.Cases.{cases, true_false}
 use Rattle.laws.proofs.Tests.{either_first, either_second, either_no}
-use Rattle.network.specs.Network.{Network, network, Connected}
-use Rattle.network.specs.Numbers.{refused, done, oversize, odd, Checked, Sifted, Untouched, pair}
+use Rattle.network.specs.Network.{network, Connected}
+use Rattle.network.specs.Numbers.{refused, done, oversize, odd, Sifted, Untouched, pair}
 use Rattle.network.specs.Inside.{Fit}
 use Rattle.network.specs.declared.Answer.{Answer}
 use Rattle.network.proofs.Sifting.{sift_fit, sift_refused, sift_connected, refuse_2, refuse_3, refuse_rest, checked_map, checked_elim, checked_once, untouched, two_untouched_once}

@@ -1,14 +1,13 @@
 -- The tables that the search of a connected network leaves are those of a tree, so all the laws of a tree hold of them; every line is a tree line
 -- or a back line, and the tree lines are one fewer than the vertices.
-use mathlib.Core.Bool.{Bool, true, false, not}
+use mathlib.Core.Bool.{Bool, true, not}
 use mathlib.Core.List.{List}
-use mathlib.Core.Logic.{◌⊎◌, inl, inr, ◌≢◌}
+use mathlib.Core.Logic.{◌≢◌}
 use mathlib.Core.Path.{◌≡◌, refl, sym, ◌∙◌, ap, subst}
 use Prim.Native.Nat.{ℕ, zero, suc, ◌+◌, ◌*◌, ◌-◌, ◌≤◌, ◌<◌}
 use native.Mathlib.Omega.{arith}
 use lib.Dec.{eqb, ltb}
-use lib.ListN.{get_or, take, length}
-use lib.Seq.{get_or-take, length-take-le}
+use lib.ListN.{get_or, take}
 use borrow.Author.Tests.{eq-eqb, ne_eqb, eqb-true, eqb-false, lt-ltb, le-ltb, not-true}
 use Rattle.laws.specs.Counting.{many, count}
 use Rattle.laws.proofs.Cases.{cases, bool, eq_or}

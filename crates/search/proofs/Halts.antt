@@ -1,21 +1,19 @@
 -- The machine comes to its end within lines + vertices steps: each step uses a line, finds a vertex on the way, or goes one down.
-use mathlib.Core.Bool.{Bool, true, false, cond}
-use mathlib.Core.List.{List}
+use mathlib.Core.Bool.{cond}
 use mathlib.Core.Path.{◌≡◌, refl, sym, ap, ◌∙◌, subst}
-use Prim.Native.Nat.{ℕ, zero, suc, ◌+◌, ◌-◌, ◌*◌, ◌≤◌, ◌<◌}
+use Prim.Native.Nat.{ℕ, zero, suc, ◌+◌, ◌-◌, ◌≤◌, ◌<◌}
 use native.Mathlib.Omega.{arith}
 use lib.Dec.{ltb}
 use lib.ListN.{get_or, set, length, take, replicate, length-replicate}
 use lib.Seq.{get_or-set_same, length-take-le}
 use borrow.Author.Tests.{eqb-false, lt-ltb, le-ltb}
-use Rattle.laws.specs.Counting.{many}
 use Rattle.laws.proofs.Cases.{cases, lt_or}
 use Rattle.laws.proofs.Counting.{many_le, many_take_set}
 use Rattle.network.specs.Network.{Network, other}
 use Rattle.network.specs.Inside.{Fit}
 use Rattle.network.specs.Marks.{unused}
 use Rattle.network.proofs.Lines.{other_in}
-use Rattle.search.specs.Machine.{State, state, finds, meets, retreats, halts, step, run, start, finished}
+use Rattle.search.specs.Machine.{State, finds, meets, retreats, halts, step, run, start, finished}
 use Rattle.search.specs.Inside.{unfound, untaken}
 use Rattle.search.proofs.Steps.{Next, Step, finding, meeting, retreating, halting, resting, view, steps, run_add, free_unused}
 use Rattle.search.proofs.Sound.{Sound, not_root, step_sound, start_sound, start_unfound}

@@ -1,22 +1,20 @@
 -- Wrong answers that the statement of orient does not allow, on named networks.
-use mathlib.Core.Bool.{Bool, true, false}
+use mathlib.Core.Bool.{true, false}
 use mathlib.Core.List.{List, [], ◌∷◌}
-use mathlib.Core.Logic.{◌⊎◌, inl, inr}
-use mathlib.Core.Path.{◌≡◌, refl, sym, ap, ◌∙◌}
-use Prim.Native.Nat.{ℕ, ◌+◌, ◌/◌}
+use mathlib.Core.Logic.{inl, inr}
+use mathlib.Core.Path.{◌≡◌, refl, ap, ◌∙◌}
+use Prim.Native.Nat.{ℕ}
 use native.Mathlib.Omega.{arith}
-use lib.Dec.{eqb}
-use lib.ListN.{length, get_or, take}
+use lib.ListN.{length, get_or}
 use Rattle.laws.specs.Tests.{both, either, all, any}
-use Rattle.laws.specs.Counting.{many}
-use Rattle.laws.proofs.Cases.{cases, true_false}
+use Rattle.laws.proofs.Cases.{true_false}
 use Rattle.laws.proofs.Tests.{either_neither}
 use Rattle.network.specs.Network.{network, touches, other, joins}
-use Rattle.network.specs.Numbers.{refused, oversize, odd, astray, looped, doubled, mispaired, Untouched}
+use Rattle.network.specs.Numbers.{refused, oversize, odd, astray, looped, doubled, mispaired}
 use Rattle.network.specs.declared.Answer.{Answer}
 use Rattle.network.proofs.Sifting.{fit_when}
 use Rattle.search.specs.Machine.{free, lowest_free, take_line, leave, go, step, run, start, finished}
-use Rattle.search.specs.Orient.{Orient, Oriented, cramped, back_lines}
+use Rattle.search.specs.Orient.{Orient, Oriented, cramped}
 use Rattle.search.specs.Inside.{everyone}
 use Rattle.search.proofs.Reached.{connected_of}
 

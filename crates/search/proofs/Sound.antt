@@ -1,22 +1,21 @@
 -- What holds of the machine at each step: the tables keep their lengths, and the found vertices are a tree, each but the root with a tree line to a
 -- found vertex one lower.
-use mathlib.Core.Bool.{Bool, true, false}
+use mathlib.Core.Bool.{true}
 use mathlib.Core.List.{List}
-use mathlib.Core.Logic.{◌⊎◌, inl, inr, ◌≢◌}
+use mathlib.Core.Logic.{◌⊎◌, inl, inr}
 use mathlib.Core.Path.{◌≡◌, refl, sym, ap, ◌∙◌, subst}
-use Prim.Native.Nat.{ℕ, zero, suc, ◌+◌, ◌*◌, ◌≤◌, ◌<◌}
+use Prim.Native.Nat.{ℕ, suc, ◌+◌, ◌≤◌, ◌<◌}
 use native.Mathlib.Omega.{arith}
 use lib.ListN.{get_or, set, length, take, replicate, length-set, length-replicate, get_or-replicate, get_or-eq_default}
 use lib.Seq.{get_or-set_same, get_or-set_other, length-take-le, set_out}
 use borrow.Author.Tests.{eqb-false}
-use Rattle.laws.specs.Counting.{many}
 use Rattle.laws.proofs.Cases.{cases, eq_or, lt_or}
 use Rattle.laws.proofs.Counting.{many_le, many_take_set}
 use Rattle.network.specs.Network.{Network, touches, other}
 use Rattle.network.specs.Inside.{Fit}
 use Rattle.network.specs.Marks.{unused}
 use Rattle.network.proofs.Lines.{touches_other, other_other, other_in}
-use Rattle.search.specs.Machine.{State, finds, meets, retreats, halts, start}
+use Rattle.search.specs.Machine.{State, finds, meets, start}
 use Rattle.search.specs.Inside.{unfound}
 use Rattle.search.proofs.Steps.{Next, Found, Step, finding, meeting, retreating, halting, resting, Later, later_found, step_later, free_touches}
 

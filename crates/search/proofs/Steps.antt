@@ -1,20 +1,18 @@
 -- The machine's step by cases, one for each thing it can do; and what no step undoes: a used line stays used, a found vertex keeps its height and
 -- its parent line.
-use mathlib.Core.Bool.{Bool, true, false, cond}
+use mathlib.Core.Bool.{true, false, cond}
 use mathlib.Core.List.{List}
-use mathlib.Core.Logic.{◌⊎◌, inl, inr}
 use mathlib.Core.Path.{◌≡◌, refl, sym, ap, ◌∙◌, subst}
-use Prim.Native.Nat.{ℕ, zero, suc, ◌+◌, ◌*◌, ◌-◌, ◌≤◌, ◌<◌}
+use Prim.Native.Nat.{ℕ, zero, suc, ◌+◌, ◌*◌, ◌≤◌, ◌<◌}
 use native.Mathlib.Nat.{suc-add, zero-add}
 use native.Mathlib.Omega.{arith}
-use lib.Dec.{eqb, ltb}
 use lib.ListN.{get_or, set, length, drop, length-set}
 use lib.Seq.{get_or-set_same, get_or-set_other, get_or-drop, set_out}
 use borrow.Author.Tests.{eq-eqb, ne_eqb, eqb-true, eqb-false, lt-ltb, le-ltb}
-use Rattle.laws.specs.Tests.{both, least}
-use Rattle.laws.proofs.Cases.{cases, bool, true_false, eq_or, lt_or}
+use Rattle.laws.specs.Tests.{least}
+use Rattle.laws.proofs.Cases.{cases, eq_or, lt_or}
 use Rattle.laws.proofs.Tests.{both_yes, both_of, both_no_first, First, least_is, least_none, least_same, least_cases}
-use Rattle.network.specs.Network.{Network, first, second, touches, other}
+use Rattle.network.specs.Network.{Network, touches, other}
 use Rattle.network.specs.Marks.{unused}
 use Rattle.search.specs.Machine.{State, state, free, lowest_free, next, finds, meets, retreats, halts, take_line, leave, go, step, run}
 

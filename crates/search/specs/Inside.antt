@@ -1,5 +1,5 @@
 -- What functions inside ask of each other. A reader of the calls' statements need not believe any of it.
-use Rattle.std.specs.Prelude.{Bool, true, false, cond, not, List, ◌≡◌, ℕ, suc, ◌+◌, ◌*◌, ◌-◌, ◌%◌, ◌≤◌, ◌<◌, eqb, get_or, set, length, take, replicate}
+use Rattle.std.specs.Prelude.{Bool, false, cond, not, List, ◌≡◌, ℕ, suc, ◌+◌, ◌-◌, ◌%◌, ◌≤◌, ◌<◌, eqb, get_or, set, length, take, replicate}
 use Rattle.laws.specs.Checks.{Check}
 use Rattle.laws.specs.Counting.{many}
 use Rattle.laws.specs.Tests.{all}

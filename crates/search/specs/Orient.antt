@@ -1,5 +1,5 @@
 -- What orient says. (docs/RULES.md, "Orient".)
-use Rattle.std.specs.Prelude.{Bool, List, ◌≡◌, ℕ, ◌+◌, ◌/◌, ltb, length, take}
+use Rattle.std.specs.Prelude.{Bool, List, ◌≡◌, ℕ, ◌/◌, ltb, length, take}
 use Rattle.laws.specs.Tests.{either}
 use Rattle.laws.specs.Counting.{many}
 use Rattle.laws.specs.Lists.{filled}

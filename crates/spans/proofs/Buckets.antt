@@ -1,7 +1,7 @@
 -- The back lines chained by their ends: what the chains have.
 use mathlib.Core.List.{List}
 use mathlib.Core.Logic.{◌⊎◌, inl, inr}
-use mathlib.Core.Path.{◌≡◌, sym, ◌∙◌, subst}
+use mathlib.Core.Path.{◌≡◌, ◌∙◌}
 use Prim.Native.Nat.{ℕ, ◌+◌, ◌≤◌, ◌<◌}
 use native.Mathlib.Omega.{arith}
 use Rattle.laws.specs.Lists.{at}

@@ -2,8 +2,7 @@
 use mathlib.Core.List.{List}
 use Prim.Native.Nat.{ℕ, ◌+◌}
 use native.Mathlib.Omega.{arith}
-use lib.ListN.{replicate, length-replicate, get_or-replicate}
-use Rattle.laws.specs.Lists.{at}
+use lib.ListN.{replicate, get_or-replicate}
 use Rattle.network.specs.Marks.{absent}
 use Rattle.tree.specs.Tree.{Tree, tree_of}
 use Rattle.fork.specs.Inside.{Known, Finished}

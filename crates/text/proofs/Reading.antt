@@ -13,7 +13,6 @@ use Rattle.laws.specs.Checks.{Check}
 use Rattle.laws.specs.Lists.{filled}
 use Rattle.laws.proofs.Cases.{true_false}
 use Rattle.laws.proofs.Filling.{filled_long}
-use Rattle.network.specs.Network.{network}
 use Rattle.network.specs.Numbers.{refused, done, oversize, Formed, Untouched}
 use Rattle.network.specs.declared.Answer.{Answer}
 use Rattle.network.proofs.Checks.{sized}

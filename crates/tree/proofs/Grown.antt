@@ -1,23 +1,20 @@
 -- The tables of a finished search make a tree: from five facts about the tables, all that `Searched` says.
 use mathlib.Core.Path.{◌≡◌, refl, sym, ◌∙◌, ap, subst}
-use mathlib.Core.Bool.{Bool, true, false, cond}
+use mathlib.Core.Bool.{true, false}
 use mathlib.Core.List.{List}
 use mathlib.Core.Logic.{◌⊎◌, inl, inr, ◌≢◌}
-use Prim.Native.Nat.{ℕ, zero, suc, ◌+◌, ◌*◌, ◌-◌, ◌≤◌, ◌<◌}
+use Prim.Native.Nat.{ℕ, zero, suc, ◌+◌, ◌-◌, ◌≤◌, ◌<◌}
 use native.Mathlib.Omega.{arith}
 use native.Mathlib.Nat.{zero-add, suc-add}
-use lib.Dec.{eqb, ltb, leb}
+use lib.Dec.{ltb}
 use lib.ListN.{get_or}
 use borrow.Author.Tests.{eq-eqb, eqb-true, eqb-false, lt-ltb, ltb-true, leb-true, le-leb}
-use Rattle.laws.specs.Tests.{both}
-use Rattle.laws.specs.Counting.{count}
 use Rattle.laws.proofs.Cases.{bool, cases, lt_or}
 use Rattle.laws.proofs.Tests.{both_yes, both_of}
 use Rattle.laws.proofs.Counting.{count_all, count_le}
 use Rattle.network.specs.Network.{first, second}
 use Rattle.tree.specs.Tree.{Tree, higher, lower, climb, aboveb, tree_of}
-use Rattle.tree.specs.Returns.{end}
-use Rattle.tree.specs.Words.{Line, TreeLine, BackLine, Above}
+use Rattle.tree.specs.Words.{TreeLine, BackLine, Above}
 use Rattle.tree.specs.Grown.{Grown}
 use Rattle.tree.specs.Searched.{Searched}
 

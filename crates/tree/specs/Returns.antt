@@ -1,6 +1,6 @@
 -- The returns of a line, and its low. (docs/RULES.md, "Returns and lows".)
-use Rattle.std.specs.Prelude.{Bool, cond, not, ℕ, zero, suc, min, eqb, ltb}
-use mathlib.Core.List.{List, [], ◌∷◌, map, foldr}
+use Rattle.std.specs.Prelude.{Bool, not, ℕ, min, eqb, ltb}
+use mathlib.Core.List.{List, map, foldr}
 use Rattle.laws.specs.Tests.{both, either}
 use Rattle.laws.specs.Lists.{keep, upto}
 use Rattle.tree.specs.Tree.{Tree}

@@ -1,5 +1,5 @@
 -- The finished search as a tree: which lines go up, which come down, and which vertex stands above which. (docs/RULES.md, "The search".)
-use Rattle.std.specs.Prelude.{Bool, cond, List, ℕ, zero, suc, ◌+◌, ◌*◌, ◌-◌, eqb, ltb, leb, get_or}
+use Rattle.std.specs.Prelude.{Bool, cond, List, ℕ, zero, suc, ◌-◌, eqb, ltb, leb, get_or}
 use Rattle.laws.specs.Tests.{both}
 use Rattle.network.specs.Marks.{tree}
 use Rattle.network.specs.Network.{first, second}

@@ -1,5 +1,5 @@
 -- The words of a tree as propositions. (docs/RULES.md, "Returns and lows".)
-use Rattle.std.specs.Prelude.{Bool, true, false, ◌⊎◌, ◌≡◌, ℕ, ◌<◌}
+use Rattle.std.specs.Prelude.{true, false, ◌⊎◌, ◌≡◌, ℕ, ◌<◌}
 use Rattle.tree.specs.Tree.{Tree}
 use Rattle.tree.specs.Returns.{end}
 

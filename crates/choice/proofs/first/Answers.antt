@@ -4,7 +4,6 @@ use native.Mathlib.Omega.{arith}
 use Rattle.groups.proofs.Answers.{fresh_pointing}
 use Rattle.choice.proofs.Faultless.{faultless_fits}
 use Rattle.choice.proofs.Answering.{first_2, first_odd, first_few_bytes, first_few_lines, first_few_kinds, gathered_reading, gathered_showing, first_refused, first_chosen, first_ringed}
-use borrow.Author.Rules.{rules}
 use Rattle.choice.proofs.first.Goals as goal
 
 pub returns-then-is_oversize : goal.returns-then-is_oversize

@@ -1,6 +1,5 @@
 -- What the beginning leaves, but for the tables that are kept inside.
 use Rattle.choice.proofs.Faultless.{begun_gathered}
-use borrow.Author.Rules.{rules}
 use Rattle.choice.proofs.group_alone.Goals as goal
 
 pub returns : goal.returns

@@ -1,11 +1,9 @@
 -- One lemma for each place where `next` returns.
 use native.Mathlib.Omega.{arith}
-use borrow.Author.Tests.{not-true, not-false}
 use Rattle.groups.proofs.Answers.{fresh_pointing}
 use Rattle.choice.proofs.Faultless.{faultless_fits}
 use Rattle.choice.proofs.Answering.{gathered_reading}
 use Rattle.choice.proofs.Stepping.{next_2, next_odd, next_few_bytes, next_refused, next_torn, next_unfit, next_last, next_done}
-use borrow.Author.Rules.{rules}
 use Rattle.choice.proofs.next.Goals as goal
 
 pub returns-then-is_oversize : goal.returns-then-is_oversize

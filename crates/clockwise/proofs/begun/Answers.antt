@@ -1,7 +1,6 @@
 -- `begun` by the vertex.
 use Rattle.clockwise.proofs.Spreading.{begun_none, begun_room, begun_one}
 use native.Mathlib.Omega.{arith}
-use borrow.Author.Rules.{rules}
 use Rattle.clockwise.proofs.begun.Goals as goal
 
 pub returns-then-v-eq0 : goal.returns-then-v-eq0

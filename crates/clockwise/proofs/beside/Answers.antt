@@ -1,7 +1,6 @@
 -- A back line stands alone. Beside a tree line: the left group, the line, the right group.
 use Rattle.clockwise.proofs.Spreading.{beside_room, beside_alone, beside_upper, beside_left, beside_middle, beside_right, beside_done}
 use native.Mathlib.Omega.{arith}
-use borrow.Author.Rules.{rules}
 use Rattle.clockwise.proofs.beside.Goals as goal
 
 pub offset_bounds-order-at : goal.offset_bounds-order-at

@@ -1,7 +1,5 @@
 -- The vertices below v are done.
-use Rattle.clockwise.proofs.Spreading.{Laying, laying_start, laying_begins, laying_spreads, laying_small, laying_more, laying_done}
-use Prim.Native.Nat.{◌-◌}
-use borrow.Author.Rules.{rules}
+use Rattle.clockwise.proofs.Spreading.{laying_start, laying_begins, laying_spreads, laying_small, laying_more, laying_done}
 use Rattle.clockwise.proofs.laid.Goals as goal
 
 pub loop-v-init : goal.loop-v-init

@@ -1,7 +1,6 @@
 -- The vertices below v are done.
-use Rattle.clockwise.proofs.Spreading.{Laying, laying_start, laying_begins, laying_spreads, laying_small, laying_more, laying_done}
+use Rattle.clockwise.proofs.Spreading.{Laying}
 use Prim.Native.Nat.{◌-◌}
-use borrow.Author.Rules.{rules}
 use Rattle.clockwise.proofs.laid.Given as goal
 
 abbrev pub invariant-loop-v : goal.invariant-loop-v

@@ -1,8 +1,7 @@
 -- The lines of the fan up to e are written.
-use Rattle.clockwise.proofs.Spreading.{Spreading, spreading_start, onward, spreading_fits, spreading_less, spreading_more, spreading_done}
+use Rattle.clockwise.proofs.Spreading.{Spreading}
 use Rattle.fans.specs.Chains.{chain_from}
 use lib.ListN.{length}
-use borrow.Author.Rules.{rules}
 use Rattle.clockwise.proofs.spread.Given as goal
 
 abbrev pub invariant-loop-e : goal.invariant-loop-e

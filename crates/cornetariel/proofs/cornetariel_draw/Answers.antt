@@ -1,5 +1,4 @@
 -- The answer of `draw`, packed.
-use borrow.Author.Rules.{rules}
 use Rattle.cornetariel.proofs.Packing.{small_draw, packed_by}
 use Rattle.cornetariel.proofs.cornetariel_draw.Goals as goal
 

@@ -1,5 +1,4 @@
 -- The answer of `first`, packed.
-use borrow.Author.Rules.{rules}
 use Rattle.cornetariel.proofs.Packing.{small_first, packed_by}
 use Rattle.cornetariel.proofs.cornetariel_first.Goals as goal
 

@@ -1,5 +1,4 @@
 -- The answer of `next`, packed.
-use borrow.Author.Rules.{rules}
 use Rattle.cornetariel.proofs.Packing.{small_next, packed_by}
 use Rattle.cornetariel.proofs.cornetariel_next.Goals as goal
 

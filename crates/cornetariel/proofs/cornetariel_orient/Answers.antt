@@ -1,5 +1,4 @@
 -- The answer of `orient`, packed.
-use borrow.Author.Rules.{rules}
 use Rattle.cornetariel.proofs.Packing.{small_orient, packed_by}
 use Rattle.cornetariel.proofs.cornetariel_orient.Goals as goal
 

@@ -1,5 +1,4 @@
 -- The answer of `read`, packed.
-use borrow.Author.Rules.{rules}
 use Rattle.cornetariel.proofs.Packing.{small_read, packed_by}
 use Rattle.cornetariel.proofs.cornetariel_read.Goals as goal
 

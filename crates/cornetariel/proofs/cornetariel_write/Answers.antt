@@ -1,5 +1,4 @@
 -- The answer of `write`, packed.
-use borrow.Author.Rules.{rules}
 use Rattle.cornetariel.proofs.Packing.{small_write, packed_by}
 use Rattle.cornetariel.proofs.cornetariel_write.Goals as goal
 

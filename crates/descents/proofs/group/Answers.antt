@@ -1,6 +1,5 @@
 -- The tree is the one in the tables of the search.
 use Rattle.descents.proofs.Grouping.{group_spannable, group_startable, group_walkable, group_flattenable, group_flattened}
-use borrow.Author.Rules.{rules}
 use Rattle.descents.proofs.group.Goals as goal
 
 pub span-requires : goal.span-requires

@@ -1,7 +1,6 @@
 -- Step by step: each asks what the steps before it left.
 use Rattle.laws.proofs.Chaining.{filled_unchained}
 use Rattle.descents.proofs.Walking.{walk_few, walk_chainable, walk_lowerable, walk_rising, walk_torn, walk_bottomed, walk_comparable, walk_falling, walk_done}
-use borrow.Author.Rules.{rules}
 use native.Mathlib.Omega.{arith}
 use Rattle.descents.proofs.walk.Goals as goal
 

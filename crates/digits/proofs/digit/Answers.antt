@@ -1,6 +1,5 @@
 -- `digit` computes its definition.
 use Rattle.digits.proofs.Words.{digit_below, digit_above}
-use borrow.Author.Rules.{rules}
 use Rattle.digits.proofs.digit.Goals as goal
 
 pub returns-then-d-lt10 : goal.returns-then-d-lt10

@@ -1,7 +1,6 @@
 -- `is_word` computes its definition, digit by digit.
 use borrow.Author.Tests.{not-true, not-false}
 use Rattle.digits.proofs.Words.{word_no_first, word_no_second, word_no_third, word_fourth}
-use borrow.Author.Rules.{rules}
 use Rattle.digits.proofs.is_word.Goals as goal
 
 pub returns-then-not-is_digit : goal.returns-then-not-is_digit

@@ -1,6 +1,5 @@
 -- `put_pair` stores the two digits of its definition one after the other.
 use Rattle.digits.proofs.Words.{pair_room, pair_put}
-use borrow.Author.Rules.{rules}
 use Rattle.digits.proofs.put_pair.Goals as goal
 
 pub bounds-text-at-2 : goal.bounds-text-at-2

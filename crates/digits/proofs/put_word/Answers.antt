@@ -1,6 +1,5 @@
 -- `put_word` stores the four digits of its definition one after the other.
 use Rattle.digits.proofs.Words.{room_second, room_third, room_fourth, word_put}
-use borrow.Author.Rules.{rules}
 use Rattle.digits.proofs.put_word.Goals as goal
 
 pub bounds-text-at-2 : goal.bounds-text-at-2

@@ -1,7 +1,6 @@
 -- `value` computes its definition, by the ranges of the digits' bytes.
 use native.Mathlib.Omega.{arith}
 use Rattle.digits.proofs.Words.{digit_ranged, decimal_value, letter_value}
-use borrow.Author.Rules.{rules}
 use Rattle.digits.proofs.value.Goals as goal
 
 pub overflow_sub-result : goal.overflow_sub-result

@@ -1,6 +1,5 @@
 -- `word_at` computes its definition: four digits, each sixteen times what stands before it.
 use Rattle.digits.proofs.Words.{digit_first, digit_second, digit_third, digit_fourth, word_is}
-use borrow.Author.Rules.{rules}
 use Rattle.digits.proofs.word_at.Goals as goal
 
 pub value-a-requires : goal.value-a-requires

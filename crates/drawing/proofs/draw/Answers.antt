@@ -1,7 +1,6 @@
 -- One lemma for each place where `draw` returns.
 use mathlib.Core.Path.{refl, sym, ◌∙◌}
 use Rattle.drawing.proofs.Answering.{roomy, draw_2, draw_lines, draw_odd, draw_cramped, draw_refused, draw_settling, draw_done}
-use borrow.Author.Rules.{rules}
 use Rattle.drawing.proofs.draw.Goals as goal
 
 pub returns-then-is_oversize : goal.returns-then-is_oversize

@@ -1,6 +1,5 @@
 -- `is_cramped` buffer by buffer.
 use Rattle.drawing.proofs.Answering.{cramped_choice, cramped_order, cramped_mesh, cramped_sizes}
-use borrow.Author.Rules.{rules}
 use Rattle.drawing.proofs.is_cramped.Goals as goal
 
 pub returns-then-choice-lines : goal.returns-then-choice-lines

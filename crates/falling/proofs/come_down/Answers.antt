@@ -1,7 +1,6 @@
 -- The line meets its fork, and goes on.
 use Rattle.links.proofs.Outcomes.{torn, outcome_after}
 use Rattle.falling.proofs.Descending.{coming_line, own_meeting, own_met}
-use borrow.Author.Rules.{rules}
 use Rattle.falling.proofs.come_down.Goals as goal
 
 pub source-requires : goal.source-requires

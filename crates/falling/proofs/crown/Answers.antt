@@ -2,7 +2,6 @@
 use Rattle.links.proofs.Outcomes.{torn}
 use native.Mathlib.Omega.{arith}
 use Rattle.falling.proofs.Crowning.{parent_small, crown_meets, crown_keeps, crown_marks, crown_done}
-use borrow.Author.Rules.{rules}
 use Rattle.falling.proofs.crown.Goals as goal
 
 pub bounds-forks-f : goal.bounds-forks-f

@@ -1,11 +1,8 @@
 -- The loop over the heights keeps `Walk`, the one along a chain `Turn`.
-use Rattle.links.proofs.Outcomes.{torn, holds_of}
-use native.Mathlib.Omega.{arith}
 use Prim.Native.Nat.{◌-◌}
 use Rattle.fork.specs.Inside.{EachTree}
 use Rattle.falling.specs.Inside.{Falling}
-use Rattle.falling.proofs.Walking.{Walk, Turn, Entered, walk_start, walk_done, level_small, entered, turn_level, turn_done, turn_place, turn_coming, turn_rises, turn_next}
-use borrow.Author.Rules.{rules}
+use Rattle.falling.proofs.Walking.{Walk, Turn, Entered}
 use Rattle.falling.proofs.fall.Given as goal
 
 abbrev pub invariant-loop-b : goal.invariant-loop-b

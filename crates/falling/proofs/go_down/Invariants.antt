@@ -1,11 +1,8 @@
 -- The loop keeps `Descent`: what is above the vertex that b has come to has been passed.
-use Rattle.links.proofs.Outcomes.{torn, holds_of}
-use native.Mathlib.Omega.{arith}
 use Rattle.laws.specs.Lists.{at}
 use Rattle.fork.specs.Inside.{EachTree}
 use Rattle.falling.specs.Down.{Sinking}
-use Rattle.falling.proofs.Descending.{Descent, sinking_line, sinking_end, descent_start, descent_vertex, descent_landing, descent_steps, lengthen_first, lengthen_second, descent_less, descent_more, descent_done}
-use borrow.Author.Rules.{rules}
+use Rattle.falling.proofs.Descending.{Descent}
 use Rattle.falling.proofs.go_down.Given as goal
 
 abbrev pub invariant-loop-v : goal.invariant-loop-v

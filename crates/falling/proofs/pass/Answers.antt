@@ -1,7 +1,6 @@
 -- Nothing has passed the line up to v, or something has and b is tied to what stands for the stretch, or the stretch holds nothing.
 use native.Mathlib.Omega.{arith}
 use Rattle.falling.proofs.Overtaking.{pass_idle, pass_tieable, pass_tied}
-use borrow.Author.Rules.{rules}
 use Rattle.falling.proofs.pass.Goals as goal
 
 pub returns-then-x-jumps : goal.returns-then-x-jumps

@@ -1,7 +1,5 @@
 -- `flatten` passes the lines from the front.
-use Rattle.groups.proofs.Passing.{Flattening, flat_start, flat_passable, flat_drawn, flat_kept, flattened}
-use Prim.Native.Nat.{◌-◌}
-use borrow.Author.Rules.{rules}
+use Rattle.groups.proofs.Passing.{flat_start, flat_passable, flat_drawn, flat_kept, flattened}
 use Rattle.groups.proofs.flatten.Goals as goal
 
 pub loop-b-init : goal.loop-b-init

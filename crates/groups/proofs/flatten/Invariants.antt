@@ -1,7 +1,6 @@
 -- `flatten` passes the lines from the front.
-use Rattle.groups.proofs.Passing.{Flattening, flat_start, flat_passable, flat_drawn, flat_kept, flattened}
+use Rattle.groups.proofs.Passing.{Flattening}
 use Prim.Native.Nat.{◌-◌}
-use borrow.Author.Rules.{rules}
 use Rattle.groups.proofs.flatten.Given as goal
 
 abbrev pub invariant-loop-b : goal.invariant-loop-b

@@ -1,6 +1,5 @@
 -- `join` answers by the two leaders and the turns.
 use Rattle.groups.proofs.Taking.{first_low, second_low, agreed, conflicting, joined_low, joined_high}
-use borrow.Author.Rules.{rules}
 use Rattle.groups.proofs.join.Goals as goal
 
 pub returns-then-turn-eq0 : goal.returns-then-turn-eq0

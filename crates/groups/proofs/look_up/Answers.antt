@@ -1,6 +1,5 @@
 -- `look_up` goes from pointer to pointer; each step is to a lower line.
-use Rattle.groups.proofs.Passing.{Climbing, climb_start, climb_passable, climb_less, climb_within, climb_more, climbed}
-use borrow.Author.Rules.{rules}
+use Rattle.groups.proofs.Passing.{climb_start, climb_passable, climb_less, climb_within, climb_more, climbed}
 use Rattle.groups.proofs.look_up.Goals as goal
 
 pub loop-y-init : goal.loop-y-init

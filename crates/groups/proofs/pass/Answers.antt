@@ -1,6 +1,5 @@
 -- `pass` changes the pointer and the turn of x.
 use Rattle.groups.proofs.Passing.{passed_by}
-use borrow.Author.Rules.{rules}
 use Rattle.groups.proofs.pass.Goals as goal
 
 pub returns : goal.returns

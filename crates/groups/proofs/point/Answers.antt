@@ -1,6 +1,5 @@
 -- `point` writes the four places of `high`.
 use Rattle.groups.proofs.Setting.{high_given}
-use borrow.Author.Rules.{rules}
 use Rattle.groups.proofs.point.Goals as goal
 
 pub returns : goal.returns

@@ -1,6 +1,5 @@
 -- `start` writes the four places of each line, from the front.
-use Rattle.groups.proofs.Setting.{Starting, starting, starting_more, started}
-use Prim.Native.Nat.{◌-◌}
+use Rattle.groups.proofs.Setting.{starting, starting_more, started}
 use borrow.Author.Rules.{rules}
 use Rattle.groups.proofs.start.Goals as goal
 

@@ -1,7 +1,6 @@
 -- `start` writes the four places of each line, from the front.
-use Rattle.groups.proofs.Setting.{Starting, starting, starting_more, started}
+use Rattle.groups.proofs.Setting.{Starting}
 use Prim.Native.Nat.{◌-◌}
-use borrow.Author.Rules.{rules}
 use Rattle.groups.proofs.start.Given as goal
 
 abbrev pub invariant-loop-b : goal.invariant-loop-b

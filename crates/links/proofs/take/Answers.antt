@@ -1,6 +1,5 @@
 -- `take` tells what the groups answered.
 use Rattle.links.proofs.Tying.{take_joinable, take_agreed, take_joined, take_torn}
-use borrow.Author.Rules.{rules}
 use Rattle.links.proofs.take.Goals as goal
 
 pub join-requires : goal.join-requires

@@ -1,6 +1,5 @@
 -- `main` reads, and writes the page.
 use Rattle.listing.proofs.Printing.{page_long}
-use borrow.Author.Rules.{rules}
 use Rattle.listing.proofs.main.Goals as goal
 
 pub slice_bounds-write_all-end : goal.slice_bounds-write_all-end

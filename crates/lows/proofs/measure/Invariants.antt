@@ -2,9 +2,7 @@
 use Prim.Native.Nat.{◌-◌}
 use Rattle.fork.specs.Inside.{EachTree}
 use Rattle.lows.specs.Inside.{Bottomed}
-use Rattle.lows.proofs.Plumbing.{Plumbing, plumbing_start, plumbing_line, plumbing_root, plumbing_none, plumbing_bottom, plumbing_some, plumbing_done}
-use native.Mathlib.Omega.{arith}
-use borrow.Author.Rules.{rules}
+use Rattle.lows.proofs.Plumbing.{Plumbing}
 use Rattle.lows.proofs.measure.Given as goal
 
 abbrev pub invariant-loop-v : goal.invariant-loop-v

@@ -1,10 +1,6 @@
 -- `rivals` fills its column vertex by vertex.
-use Prim.Native.Nat.{◌-◌}
-use Rattle.fork.specs.Inside.{EachTree}
-use Rattle.lows.specs.Inside.{Comparable}
-use Rattle.lows.proofs.Comparing.{Comparing, comparing_weighable, comparing_start, comparing_root, comparing_below, comparing_line, comparing_more, comparing_done}
+use Rattle.lows.proofs.Comparing.{comparing_weighable, comparing_start, comparing_root, comparing_below, comparing_line, comparing_more, comparing_done}
 use native.Mathlib.Omega.{arith}
-use borrow.Author.Rules.{rules}
 use Rattle.lows.proofs.rivals.Goals as goal
 
 pub weigh-requires : goal.weigh-requires
@@ -15,24 +11,24 @@ loop-v-init c = λ S s. comparing_start s
 
 pub overflow_add-low : goal.overflow_add-low
 overflow_add-low c = omega (
-      arith,
-      comparing_line c.requires.asked (c.loop-v.invariant _ c.requires.asked) c.loop-v-test.true c.if-heights-v-gt0.true
-          c.onward-u.ensures c.wide.ensures,
-    )
+  arith,
+  comparing_line c.requires.asked (c.loop-v.invariant _ c.requires.asked) c.loop-v-test.true c.if-heights-v-gt0.true
+      c.onward-u.ensures c.wide.ensures,
+)
 
 pub offset_bounds-forks-wide : goal.offset_bounds-forks-wide
 offset_bounds-forks-wide c = omega (
-      arith,
-      comparing_line c.requires.asked (c.loop-v.invariant _ c.requires.asked) c.loop-v-test.true c.if-heights-v-gt0.true
-          c.onward-u.ensures c.wide.ensures,
-    )
+  arith,
+  comparing_line c.requires.asked (c.loop-v.invariant _ c.requires.asked) c.loop-v-test.true c.if-heights-v-gt0.true
+      c.onward-u.ensures c.wide.ensures,
+)
 
 pub bounds-forks-wide : goal.bounds-forks-wide
 bounds-forks-wide c = omega (
-      arith,
-      comparing_line c.requires.asked (c.loop-v.invariant _ c.requires.asked) c.loop-v-test.true c.if-heights-v-gt0.true
-          c.onward-u.ensures c.wide.ensures,
-    )
+  arith,
+  comparing_line c.requires.asked (c.loop-v.invariant _ c.requires.asked) c.loop-v-test.true c.if-heights-v-gt0.true
+      c.onward-u.ensures c.wide.ensures,
+)
 
 pub bounds-firsts-u : goal.bounds-firsts-u
 bounds-firsts-u c = comparing_below c.requires.asked (c.loop-v.invariant _ c.requires.asked) c.loop-v-test.true c.if-heights-v-gt0.true c.onward-u.ensures

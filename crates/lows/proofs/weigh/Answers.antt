@@ -1,9 +1,5 @@
 -- `weigh` keeps the two least of the lows passed, for each vertex.
-use Prim.Native.Nat.{◌-◌}
-use Rattle.fork.specs.Inside.{EachTree}
-use Rattle.lows.specs.Inside.{Weighable}
-use Rattle.lows.proofs.Lessening.{Lessening, lessening_start, lessening_vertex, lessening_more, lessening_done}
-use borrow.Author.Rules.{rules}
+use Rattle.lows.proofs.Lessening.{lessening_start, lessening_vertex, lessening_more, lessening_done}
 use Rattle.lows.proofs.weigh.Goals as goal
 
 pub loop-k-init : goal.loop-k-init

@@ -2,8 +2,7 @@
 use Prim.Native.Nat.{◌-◌}
 use Rattle.fork.specs.Inside.{EachTree}
 use Rattle.lows.specs.Inside.{Weighable}
-use Rattle.lows.proofs.Lessening.{Lessening, lessening_start, lessening_vertex, lessening_more, lessening_done}
-use borrow.Author.Rules.{rules}
+use Rattle.lows.proofs.Lessening.{Lessening}
 use Rattle.lows.proofs.weigh.Given as goal
 
 abbrev pub invariant-loop-k : goal.invariant-loop-k

@@ -1,7 +1,6 @@
 -- Each way through has its stores.
 use native.Mathlib.Omega.{arith}
 use Rattle.meeting.proofs.Keeping.{stored_first, stored_second, stored_none}
-use borrow.Author.Rules.{rules}
 use Rattle.meeting.proofs.keep.Goals as goal
 
 pub returns-then-l-pairs : goal.returns-then-l-pairs

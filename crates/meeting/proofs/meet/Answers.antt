@@ -1,7 +1,6 @@
 -- Where the first of the two kept has no low below x, nothing overlaps the line that arrives.
 use native.Mathlib.Omega.{arith}
 use Rattle.meeting.proofs.Overlapping.{meet_none}
-use borrow.Author.Rules.{rules}
 use Rattle.meeting.proofs.meet.Goals as goal
 
 pub returns-then-x-pairs : goal.returns-then-x-pairs

@@ -1,7 +1,5 @@
 -- A line that has met the two kept has met all.
-use native.Mathlib.Omega.{arith}
 use Rattle.meeting.proofs.Overlapping.{facing_first, meeting_then, meet_both, meet_torn}
-use borrow.Author.Rules.{rules}
 use Rattle.meeting.proofs.meet_first.Goals as goal
 
 pub part-requires : goal.part-requires

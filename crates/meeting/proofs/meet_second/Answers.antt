@@ -1,7 +1,6 @@
 -- The second of the two kept is held against, where its low is below x.
 use native.Mathlib.Omega.{arith}
 use Rattle.meeting.proofs.Overlapping.{facing_second, second_none, second_parted}
-use borrow.Author.Rules.{rules}
 use Rattle.meeting.proofs.meet_second.Goals as goal
 
 pub returns-then-x-pairs : goal.returns-then-x-pairs

@@ -1,7 +1,6 @@
 -- Lines whose ends lie one above the other overlap, so that their tops may be tied.
 use native.Mathlib.Omega.{arith}
 use Rattle.meeting.proofs.Overlapping.{part_none, part_link, part_tied}
-use borrow.Author.Rules.{rules}
 use Rattle.meeting.proofs.part.Goals as goal
 
 pub returns-then-forks-c : goal.returns-then-forks-c

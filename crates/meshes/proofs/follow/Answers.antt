@@ -1,9 +1,5 @@
 -- The walk from d is marked up to x.
-use lib.ListN.{take}
-use borrow.Author.Rules.{rules}
-use Rattle.laws.specs.Counting.{many}
-use Rattle.network.specs.Marks.{absent}
-use Rattle.meshes.proofs.Following.{Following, following_start, following_less, following_more, following_done}
+use Rattle.meshes.proofs.Following.{following_start, following_less, following_more, following_done}
 use Rattle.meshes.proofs.follow.Goals as goal
 
 pub loop-mesh-init : goal.loop-mesh-init

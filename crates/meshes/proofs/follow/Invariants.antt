@@ -1,9 +1,8 @@
 -- The walk from d is marked up to x.
 use lib.ListN.{take}
-use borrow.Author.Rules.{rules}
 use Rattle.laws.specs.Counting.{many}
 use Rattle.network.specs.Marks.{absent}
-use Rattle.meshes.proofs.Following.{Following, following_start, following_less, following_more, following_done}
+use Rattle.meshes.proofs.Following.{Following}
 use Rattle.meshes.proofs.follow.Given as goal
 
 abbrev pub invariant-loop-mesh : goal.invariant-loop-mesh

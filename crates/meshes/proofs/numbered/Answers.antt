@@ -1,7 +1,5 @@
 -- The walks with a lowest direction below d have their numbers.
-use Prim.Native.Nat.{◌-◌}
-use borrow.Author.Rules.{rules}
-use Rattle.meshes.proofs.Following.{Marking, marking_start, marking_more, marking_pass, marking_done}
+use Rattle.meshes.proofs.Following.{marking_start, marking_more, marking_pass, marking_done}
 use Rattle.meshes.proofs.numbered.Goals as goal
 
 pub loop-d-init : goal.loop-d-init

@@ -1,7 +1,5 @@
 -- The lines below k are counted.
-use Prim.Native.Nat.{◌-◌}
-use Rattle.meshes.proofs.Sizing.{Sizing, sizing_start, sizing_forth, sizing_add, sizing_back, sizing_add_back, sizing_same, sizing_two, sizing_done}
-use borrow.Author.Rules.{rules}
+use Rattle.meshes.proofs.Sizing.{sizing_start, sizing_forth, sizing_add, sizing_back, sizing_add_back, sizing_same, sizing_two, sizing_done}
 use Rattle.meshes.proofs.sized.Goals as goal
 
 pub loop-k-init : goal.loop-k-init

@@ -1,9 +1,5 @@
 -- `is_astray` computes its definition: the ends passed so far are vertices.
-use Prim.Native.Nat.{◌-◌}
-use native.Mathlib.Omega.{arith}
-use lib.ListN.{length}
-use borrow.Author.Rules.{rules}
-use Rattle.network.proofs.Checks.{Inside, inside_start, inside_more, inside_all, goes_astray}
+use Rattle.network.proofs.Checks.{inside_start, inside_more, inside_all, goes_astray}
 use Rattle.network.proofs.is_astray.Goals as goal
 
 pub loop-i-init : goal.loop-i-init

@@ -1,8 +1,6 @@
 -- `is_mispaired` computes its definition: the table holds the pairs of the lines passed so far.
 use Prim.Native.Nat.{◌-◌}
-use native.Mathlib.Omega.{arith}
-use borrow.Author.Rules.{rules}
-use Rattle.network.proofs.Pairs.{Seen, place_in, turned_in, seen_start, seen_loop, seen_twice, seen_more, seen_all}
+use Rattle.network.proofs.Pairs.{Seen}
 use Rattle.network.proofs.is_mispaired.Given as goal
 
 abbrev pub invariant-loop-k : goal.invariant-loop-k

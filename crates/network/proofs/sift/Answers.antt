@@ -1,5 +1,4 @@
 -- `sift` makes the checks in the order of their numbers.
-use borrow.Author.Rules.{rules}
 use Rattle.network.proofs.Checks.{sift_2, sift_3, sift_4, sift_5, sift_0, paired}
 use Rattle.network.proofs.sift.Goals as goal
 

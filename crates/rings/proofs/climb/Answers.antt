@@ -1,7 +1,5 @@
 -- `climb` goes from each line to the one that it was reached from, until that is b.
-use Prim.Native.Nat.{◌-◌}
-use Rattle.rings.proofs.Climbing.{Climb, climb_start, climb_room, climb_less, climb_more, climb_done}
-use borrow.Author.Rules.{rules}
+use Rattle.rings.proofs.Climbing.{climb_start, climb_room, climb_less, climb_more, climb_done}
 use Rattle.rings.proofs.climb.Goals as goal
 
 pub loop-x-init : goal.loop-x-init

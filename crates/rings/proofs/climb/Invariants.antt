@@ -1,7 +1,6 @@
 -- `climb` goes from each line to the one that it was reached from, until that is b.
 use Prim.Native.Nat.{◌-◌}
-use Rattle.rings.proofs.Climbing.{Climb, climb_start, climb_room, climb_less, climb_more, climb_done}
-use borrow.Author.Rules.{rules}
+use Rattle.rings.proofs.Climbing.{Climb}
 use Rattle.rings.proofs.climb.Given as goal
 
 abbrev pub invariant-loop-x : goal.invariant-loop-x

@@ -1,6 +1,5 @@
 -- `show` finds the chain and writes it as a ring.
 use Rattle.rings.proofs.Finding.{connected, ring_room, ring_written}
-use borrow.Author.Rules.{rules}
 use Rattle.rings.proofs.show.Goals as goal
 
 pub find_chain-n-requires : goal.find_chain-n-requires

@@ -1,10 +1,6 @@
 -- `rise` keeps `Upward` from back line to back line, and from chain to chain.
-use Prim.Native.Nat.{◌+◌, ◌-◌, ◌*◌}
-use Rattle.fork.specs.Inside.{EachTree}
-use Rattle.rising.specs.Inside.{Rising}
-use Rattle.rising.proofs.Rising.{Upward, rise_empty, rise_start, rise_settleable, rise_line, rise_torn, rise_less, rise_next, rise_up, rise_up_less, rise_done}
+use Rattle.rising.proofs.Rising.{rise_empty, rise_start, rise_settleable, rise_line, rise_torn, rise_less, rise_next, rise_up, rise_up_less, rise_done}
 use native.Mathlib.Omega.{arith}
-use borrow.Author.Rules.{rules}
 use Rattle.rising.proofs.rise.Goals as goal
 
 pub returns-then-vertices-eq0 : goal.returns-then-vertices-eq0
@@ -15,10 +11,10 @@ loop-x-init c = λ S s. rise_start s c.if-vertices-eq0.false c.wide-none.ensures
 
 pub settle-requires : goal.settle-requires
 settle-requires c = record {
-      tree = c.requires.tree;
-      asked = rise_settleable c.requires.asked c.if-vertices-eq0.false c.wide-none.ensures (c.loop-x.invariant _ c.requires.asked)
-          c.loop-x-test.true c.if-b-none.true;
-    }
+  tree = c.requires.tree;
+  asked = rise_settleable c.requires.asked c.if-vertices-eq0.false c.wide-none.ensures (c.loop-x.invariant _ c.requires.asked)
+      c.loop-x-test.true c.if-b-none.true;
+}
 
 pub returns-in-Tears : goal.returns-in-Tears
 returns-in-Tears c = λ S s. rise_torn s c.if-vertices-eq0.false c.wide-none.ensures (c.loop-x.invariant S s) c.loop-x-test.true c.if-b-none.true
@@ -26,10 +22,10 @@ returns-in-Tears c = λ S s. rise_torn s c.if-vertices-eq0.false c.wide-none.ens
 
 pub offset_bounds-nexts-b : goal.offset_bounds-nexts-b
 offset_bounds-nexts-b c = omega (
-      arith,
-      rise_line c.requires.asked c.if-vertices-eq0.false c.wide-none.ensures (c.loop-x.invariant _ c.requires.asked)
-          c.loop-x-test.true c.if-b-none.true,
-    )
+  arith,
+  rise_line c.requires.asked c.if-vertices-eq0.false c.wide-none.ensures (c.loop-x.invariant _ c.requires.asked)
+      c.loop-x-test.true c.if-b-none.true,
+)
 
 pub bounds-nexts-b : goal.bounds-nexts-b
 bounds-nexts-b c = rise_line c.requires.asked c.if-vertices-eq0.false c.wide-none.ensures (c.loop-x.invariant _ c.requires.asked) c.loop-x-test.true

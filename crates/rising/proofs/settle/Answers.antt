@@ -1,7 +1,6 @@
 -- `settle`: the turn of a back line ends in one of three ways.
 use Rattle.rising.proofs.Settling.{settled_alone, settled_line, settled_lower, settled_tieable, settled_tied}
 use native.Mathlib.Omega.{arith}
-use borrow.Author.Rules.{rules}
 use Rattle.rising.proofs.settle.Goals as goal
 
 pub sink-c-requires : goal.sink-c-requires
@@ -24,9 +23,9 @@ returns-then-forks-c c = λ S s. settled_lower s (c.sink-c.ensures S s.sinkable)
 
 pub take-requires : goal.take-requires
 take-requires c = record {
-      tree = c.requires.tree;
-      asked = settled_tieable c.requires.asked (c.sink-c.ensures _ c.requires.asked.sinkable) c.if-c-eq-INDEX.false c.if-forks-c.false;
-    }
+  tree = c.requires.tree;
+  asked = settled_tieable c.requires.asked (c.sink-c.ensures _ c.requires.asked.sinkable) c.if-c-eq-INDEX.false c.if-forks-c.false;
+}
 
 pub returns : goal.returns
 returns c = λ S s. settled_tied s (c.sink-c.ensures S s.sinkable) c.if-c-eq-INDEX.false c.if-forks-c.false (c.take.ensures S)

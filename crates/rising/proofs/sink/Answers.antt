@@ -1,10 +1,6 @@
 -- `sink` keeps `SunkTo`: what was passed is made its own.
-use lib.ListN.{get_or}
-use Rattle.fork.specs.Inside.{EachTree}
-use Rattle.rising.specs.Inside.{Sinkable, SunkTo}
 use Rattle.rising.proofs.Sinking.{sink_limit, sink_start, sink_vertex, sink_end, sink_met, sink_less, sink_more}
 use native.Mathlib.Omega.{arith}
-use borrow.Author.Rules.{rules}
 use Rattle.rising.proofs.sink.Goals as goal
 
 pub overflow_add-limit-2 : goal.overflow_add-limit-2

@@ -2,9 +2,6 @@
 use lib.ListN.{get_or}
 use Rattle.fork.specs.Inside.{EachTree}
 use Rattle.rising.specs.Inside.{Sinkable, SunkTo}
-use Rattle.rising.proofs.Sinking.{sink_limit, sink_start, sink_vertex, sink_end, sink_met, sink_less, sink_more}
-use native.Mathlib.Omega.{arith}
-use borrow.Author.Rules.{rules}
 use Rattle.rising.proofs.sink.Given as goal
 
 abbrev pub invariant-loop-v : goal.invariant-loop-v

@@ -1,7 +1,5 @@
 -- The vertices passed so far are found.
-use Prim.Native.Nat.{◌-◌}
-use native.Mathlib.Omega.{arith}
-use Rattle.search.proofs.Reached.{Reaching, reaching_start, reaching_more, reaching_done, reaching_not}
+use Rattle.search.proofs.Reached.{reaching_start, reaching_more, reaching_done, reaching_not}
 use Rattle.search.proofs.all_found.Goals as goal
 
 pub loop-v-init : goal.loop-v-init

@@ -1,7 +1,6 @@
 -- The vertices passed so far are found.
 use Prim.Native.Nat.{◌-◌}
-use native.Mathlib.Omega.{arith}
-use Rattle.search.proofs.Reached.{Reaching, reaching_start, reaching_more, reaching_done, reaching_not}
+use Rattle.search.proofs.Reached.{Reaching}
 use Rattle.search.proofs.all_found.Given as goal
 
 abbrev pub invariant-loop-v : goal.invariant-loop-v

@@ -1,6 +1,5 @@
 -- `fault` keeps the search to itself, and tells its number.
 use Rattle.search.proofs.Calls.{explore_faulted}
-use borrow.Author.Rules.{rules}
 use Rattle.search.proofs.fault.Goals as goal
 
 pub returns : goal.returns

@@ -2,7 +2,6 @@
 use mathlib.Core.Path.{sym}
 use native.Mathlib.Omega.{arith}
 use Rattle.search.proofs.Calls.{orient_2, orient_kinds, orient_heights, orient_lines, orient_vertices, orient_odd, orient_few_kinds, orient_few_heights, orient_refused, orient_fits, orient_done}
-use borrow.Author.Rules.{rules}
 use Rattle.search.proofs.orient.Goals as goal
 
 pub returns-then-is_oversize : goal.returns-then-is_oversize

@@ -1,8 +1,5 @@
 -- `chain` makes the chains: the lines passed so far are laid.
-use Prim.Native.Nat.{◌+◌}
-use Rattle.laws.specs.Lists.{at}
-use Rattle.laws.proofs.Chaining.{Linking, linking_start, linking_vertex, linking_more, linking_done}
-use borrow.Author.Rules.{rules}
+use Rattle.laws.proofs.Chaining.{linking_start, linking_vertex, linking_more, linking_done}
 use Rattle.spans.proofs.chain.Goals as goal
 
 pub loop-k-init : goal.loop-k-init

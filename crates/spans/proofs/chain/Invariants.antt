@@ -1,8 +1,7 @@
 -- `chain` makes the chains: the lines passed so far are laid.
 use Prim.Native.Nat.{◌+◌}
 use Rattle.laws.specs.Lists.{at}
-use Rattle.laws.proofs.Chaining.{Linking, linking_start, linking_vertex, linking_more, linking_done}
-use borrow.Author.Rules.{rules}
+use Rattle.laws.proofs.Chaining.{Linking}
 use Rattle.spans.proofs.chain.Given as goal
 
 abbrev pub invariant-loop-k : goal.invariant-loop-k

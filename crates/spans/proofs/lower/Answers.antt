@@ -1,9 +1,5 @@
 -- `lower` fills the column vertex by vertex.
-use Prim.Native.Nat.{◌-◌}
-use Rattle.fork.specs.Inside.{EachTree}
-use Rattle.spans.specs.Inside.{Lowerable}
-use Rattle.spans.proofs.Lowering.{Lowering, lowering_start, lowering_line, lowering_root, lowering_more, lowering_done}
-use borrow.Author.Rules.{rules}
+use Rattle.spans.proofs.Lowering.{lowering_start, lowering_line, lowering_root, lowering_more, lowering_done}
 use Rattle.spans.proofs.lower.Goals as goal
 
 pub loop-v-init : goal.loop-v-init

@@ -2,8 +2,7 @@
 use Prim.Native.Nat.{◌-◌}
 use Rattle.fork.specs.Inside.{EachTree}
 use Rattle.spans.specs.Inside.{Lowerable}
-use Rattle.spans.proofs.Lowering.{Lowering, lowering_start, lowering_line, lowering_root, lowering_more, lowering_done}
-use borrow.Author.Rules.{rules}
+use Rattle.spans.proofs.Lowering.{Lowering}
 use Rattle.spans.proofs.lower.Given as goal
 
 abbrev pub invariant-loop-v : goal.invariant-loop-v

@@ -1,9 +1,5 @@
 -- `span` fills its columns line by line.
-use Prim.Native.Nat.{ℕ, ◌-◌}
-use Rattle.fork.specs.Inside.{EachTree}
-use Rattle.spans.specs.Inside.{Spannable}
-use Rattle.spans.proofs.Spanning.{Spanning, spanning_start, spanning_first, spanning_second, spanning_more, spanning_done}
-use borrow.Author.Rules.{rules}
+use Rattle.spans.proofs.Spanning.{spanning_start, spanning_first, spanning_second, spanning_more, spanning_done}
 use Rattle.spans.proofs.span.Goals as goal
 
 pub loop-k-init : goal.loop-k-init

@@ -1,9 +1,8 @@
 -- `span` fills its columns line by line.
-use Prim.Native.Nat.{ℕ, ◌-◌}
+use Prim.Native.Nat.{◌-◌}
 use Rattle.fork.specs.Inside.{EachTree}
 use Rattle.spans.specs.Inside.{Spannable}
-use Rattle.spans.proofs.Spanning.{Spanning, spanning_start, spanning_first, spanning_second, spanning_more, spanning_done}
-use borrow.Author.Rules.{rules}
+use Rattle.spans.proofs.Spanning.{Spanning}
 use Rattle.spans.proofs.span.Given as goal
 
 abbrev pub invariant-loop-k : goal.invariant-loop-k

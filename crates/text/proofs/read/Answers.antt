@@ -1,7 +1,6 @@
 -- `read` makes the checks in the order of their numbers, on ends that it keeps to itself until nothing speaks against them.
 use native.Mathlib.Omega.{arith}
 use Rattle.text.proofs.Reading.{read_1, vertices_word, lines_word, read_2, read_3, parsable, prefix_in, prefix_long, read_refused, read_through}
-use borrow.Author.Rules.{rules}
 use Rattle.text.proofs.read.Goals as goal
 
 pub returns-then-not-has_form : goal.returns-then-not-has_form

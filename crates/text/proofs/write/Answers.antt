@@ -1,6 +1,5 @@
 -- `write` makes the checks in the order of their numbers, and then puts the text.
 use Rattle.text.proofs.Writing.{write_2, bytes_fit, write_odd, write_short, writable, write_refused, write_through}
-use borrow.Author.Rules.{rules}
 use Rattle.text.proofs.write.Goals as goal
 
 pub returns-then-is_oversize : goal.returns-then-is_oversize

@@ -1,6 +1,5 @@
 -- The search, and if it is not refused the groups of the tree in its tables.
 use Rattle.choice.proofs.Faultless.{explored_known, begun_refused, begun_grouped}
-use borrow.Author.Rules.{rules}
 use Rattle.choice.proofs.beginning.begin.Goals as goal
 
 pub returns-then-number-ne0 : goal.returns-then-number-ne0

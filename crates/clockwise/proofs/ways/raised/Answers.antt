@@ -1,10 +1,6 @@
 -- The lines that lead up to vertices below v are done.
-use Rattle.clockwise.proofs.Raising.{Raising, raising_start, raising_vertex, raising_line, raising_more, raising_done}
-use Rattle.clockwise.specs.Walks.{Rooted}
-use Rattle.fork.specs.Inside.{EachTree}
+use Rattle.clockwise.proofs.Raising.{raising_start, raising_vertex, raising_line, raising_more, raising_done}
 use native.Mathlib.Omega.{arith}
-use Prim.Native.Nat.{◌-◌}
-use borrow.Author.Rules.{rules}
 use Rattle.clockwise.proofs.ways.raised.Goals as goal
 
 pub loop-v-init : goal.loop-v-init

@@ -1,10 +1,8 @@
 -- The lines that lead up to vertices below v are done.
-use Rattle.clockwise.proofs.Raising.{Raising, raising_start, raising_vertex, raising_line, raising_more, raising_done}
+use Rattle.clockwise.proofs.Raising.{Raising}
 use Rattle.clockwise.specs.Walks.{Rooted}
 use Rattle.fork.specs.Inside.{EachTree}
-use native.Mathlib.Omega.{arith}
 use Prim.Native.Nat.{◌-◌}
-use borrow.Author.Rules.{rules}
 use Rattle.clockwise.proofs.ways.raised.Given as goal
 
 abbrev pub invariant-loop-v : goal.invariant-loop-v

@@ -1,7 +1,6 @@
 -- The order, the mesh map's table, the meshes, their sizes.
 use mathlib.Core.Path.{refl}
 use Rattle.drawing.proofs.Meshing.{drawn_laid, drawn_numberable, drawn_meshed, drawn_lone, drawn_some}
-use borrow.Author.Rules.{rules}
 use Rattle.drawing.proofs.sketches.drawn.Goals as goal
 
 pub linked-requires : goal.linked-requires

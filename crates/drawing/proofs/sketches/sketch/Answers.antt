@@ -1,7 +1,6 @@
 -- One lemma for each place where `sketch` returns.
 use mathlib.Core.Path.{refl}
 use native.Mathlib.Omega.{arith}
-use borrow.Author.Tests.{not-true, not-false}
 use Rattle.groups.proofs.Answers.{fresh_pointing}
 use Rattle.choice.proofs.Faultless.{begun_gathered, faultless_few}
 use Rattle.choice.proofs.Answering.{gathered_reading}

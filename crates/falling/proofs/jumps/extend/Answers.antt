@@ -1,6 +1,5 @@
 -- The stores are those of the two laws.
 use Rattle.falling.proofs.Joining.{extended_kept, extended_changed}
-use borrow.Author.Rules.{rules}
 use Rattle.falling.proofs.jumps.extend.Goals as goal
 
 pub returns-then-jumps-p : goal.returns-then-jumps-p

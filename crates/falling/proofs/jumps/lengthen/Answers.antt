@@ -1,6 +1,5 @@
 -- One jump goes on, or two.
 use Rattle.falling.proofs.Joining.{lengthened_once, lengthened_twice}
-use borrow.Author.Rules.{rules}
 use Rattle.falling.proofs.jumps.lengthen.Goals as goal
 
 pub returns-then-steps-lt-SHORT : goal.returns-then-steps-lt-SHORT

@@ -1,7 +1,6 @@
 -- `rank` by its two ways.
 use Rattle.fans.proofs.Tabulating.{rank_more, rank_one}
 use native.Mathlib.Omega.{arith}
-use borrow.Author.Rules.{rules}
 use Rattle.fans.proofs.nests.rank.Goals as goal
 
 pub returns-then-low-high : goal.returns-then-low-high

@@ -1,8 +1,5 @@
 -- The lines below k have their rank.
-use Rattle.fans.proofs.Tabulating.{Tabulating, tabulating_start, tabulating_done, ranking_low, ranking_more}
-use Rattle.fans.specs.Nesting.{rank_in}
-use Prim.Native.Nat.{◌-◌}
-use borrow.Author.Rules.{rules}
+use Rattle.fans.proofs.Tabulating.{tabulating_start, tabulating_done, ranking_low, ranking_more}
 use Rattle.fans.proofs.nests.ranked.Goals as goal
 
 pub loop-k-init : goal.loop-k-init

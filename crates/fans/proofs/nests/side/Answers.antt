@@ -1,6 +1,5 @@
 -- `side` by its three ways.
 use Rattle.fans.proofs.Tabulating.{side_own, side_top, side_none}
-use borrow.Author.Rules.{rules}
 use Rattle.fans.proofs.nests.side.Goals as goal
 
 pub returns-then-t-lines : goal.returns-then-t-lines

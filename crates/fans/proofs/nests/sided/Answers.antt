@@ -1,8 +1,5 @@
 -- The lines below k have their side.
-use Rattle.fans.proofs.Tabulating.{Tabulating, tabulating_start, tabulating_more, tabulating_done}
-use Rattle.fans.specs.Nesting.{side_in}
-use Prim.Native.Nat.{◌-◌}
-use borrow.Author.Rules.{rules}
+use Rattle.fans.proofs.Tabulating.{tabulating_start, tabulating_more, tabulating_done}
 use Rattle.fans.proofs.nests.sided.Goals as goal
 
 pub loop-k-init : goal.loop-k-init

@@ -1,8 +1,7 @@
 -- The lines below k have their side.
-use Rattle.fans.proofs.Tabulating.{Tabulating, tabulating_start, tabulating_more, tabulating_done}
+use Rattle.fans.proofs.Tabulating.{Tabulating}
 use Rattle.fans.specs.Nesting.{side_in}
 use Prim.Native.Nat.{◌-◌}
-use borrow.Author.Rules.{rules}
 use Rattle.fans.proofs.nests.sided.Given as goal
 
 abbrev pub invariant-loop-k : goal.invariant-loop-k

@@ -1,6 +1,5 @@
 -- `first` copies the parities, from the front.
-use Rattle.groups.proofs.Filling.{Copies, Filled, filled_none, byte_small, copies_more, copied}
-use Prim.Native.Nat.{◌-◌}
+use Rattle.groups.proofs.Filling.{filled_none, byte_small, copies_more, copied}
 use borrow.Author.Rules.{rules}
 use Rattle.groups.proofs.choice.first.Goals as goal
 

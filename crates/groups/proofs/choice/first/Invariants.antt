@@ -1,7 +1,6 @@
 -- `first` copies the parities, from the front.
-use Rattle.groups.proofs.Filling.{Copies, Filled, filled_none, byte_small, copies_more, copied}
+use Rattle.groups.proofs.Filling.{Copies, Filled}
 use Prim.Native.Nat.{◌-◌}
-use borrow.Author.Rules.{rules}
 use Rattle.groups.proofs.choice.first.Given as goal
 
 abbrev pub invariant-loop-b : goal.invariant-loop-b

@@ -1,6 +1,5 @@
 -- `fit` computes its definition, by its tests.
 use Rattle.groups.proofs.Filling.{fit_tree, fit_high, fit_side}
-use borrow.Author.Rules.{rules}
 use Rattle.groups.proofs.choice.fit.Goals as goal
 
 pub returns-then-parity-eq-TREE : goal.returns-then-parity-eq-TREE

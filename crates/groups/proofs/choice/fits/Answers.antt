@@ -1,6 +1,5 @@
 -- `fits` computes its definition: all bytes so far are as they should be.
-use Rattle.groups.proofs.Filling.{Fitting, fitting_none, byte_small, led_inside, misfit, fitting_more, fitting_all}
-use Prim.Native.Nat.{◌-◌}
+use Rattle.groups.proofs.Filling.{fitting_none, byte_small, led_inside, misfit, fitting_more, fitting_all}
 use borrow.Author.Rules.{rules}
 use Rattle.groups.proofs.choice.fits.Goals as goal
 

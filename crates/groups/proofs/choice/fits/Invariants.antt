@@ -1,7 +1,6 @@
 -- `fits` computes its definition: all bytes so far are as they should be.
-use Rattle.groups.proofs.Filling.{Fitting, fitting_none, byte_small, led_inside, misfit, fitting_more, fitting_all}
+use Rattle.groups.proofs.Filling.{Fitting}
 use Prim.Native.Nat.{◌-◌}
-use borrow.Author.Rules.{rules}
 use Rattle.groups.proofs.choice.fits.Given as goal
 
 abbrev pub invariant-loop-b : goal.invariant-loop-b

@@ -1,6 +1,5 @@
 -- `next` turns at the pivot, where there is one.
 use Rattle.groups.proofs.Filling.{stuck, advanced}
-use borrow.Author.Rules.{rules}
 use Rattle.groups.proofs.choice.next.Goals as goal
 
 pub returns-then-r-lines : goal.returns-then-r-lines

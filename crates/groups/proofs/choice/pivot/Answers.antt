@@ -1,7 +1,5 @@
 -- `pivot` keeps the highest line so far that leads and is left.
-use Rattle.groups.proofs.Filling.{Seeking, seek_none, seek_here, seek_right, seek_led, seek_all}
-use Prim.Native.Nat.{◌-◌}
-use borrow.Author.Rules.{rules}
+use Rattle.groups.proofs.Filling.{seek_none, seek_here, seek_right, seek_led, seek_all}
 use Rattle.groups.proofs.choice.pivot.Goals as goal
 
 pub loop-b-init : goal.loop-b-init

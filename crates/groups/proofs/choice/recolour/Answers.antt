@@ -1,6 +1,5 @@
 -- The group that is turned takes the opposite sides; a lower one is kept, and a higher one begins anew.
 use native.Mathlib.Omega.{arith}
-use borrow.Author.Rules.{rules}
 use Rattle.groups.proofs.Filling.{turned_over}
 use Rattle.groups.proofs.choice.recolour.Goals as goal
 

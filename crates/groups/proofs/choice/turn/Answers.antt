@@ -1,6 +1,5 @@
 -- `turn` writes the new byte of each line, from the front.
-use Rattle.groups.proofs.Filling.{Turns, Filled, filled_none, byte_small, turns_more, turns_all}
-use Prim.Native.Nat.{◌-◌}
+use Rattle.groups.proofs.Filling.{filled_none, byte_small, turns_more, turns_all}
 use borrow.Author.Rules.{rules}
 use Rattle.groups.proofs.choice.turn.Goals as goal
 

@@ -1,7 +1,6 @@
 -- `turn` writes the new byte of each line, from the front.
-use Rattle.groups.proofs.Filling.{Turns, Filled, filled_none, byte_small, turns_more, turns_all}
+use Rattle.groups.proofs.Filling.{Turns, Filled}
 use Prim.Native.Nat.{◌-◌}
-use borrow.Author.Rules.{rules}
 use Rattle.groups.proofs.choice.turn.Given as goal
 
 abbrev pub invariant-loop-b : goal.invariant-loop-b

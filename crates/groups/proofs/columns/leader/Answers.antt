@@ -1,6 +1,5 @@
 -- `leader` reads the first column, which begins at place 0.
 use Rattle.groups.proofs.Storing.{first_column}
-use borrow.Author.Rules.{rules}
 use Rattle.groups.proofs.columns.leader.Goals as goal
 
 pub returns : goal.returns

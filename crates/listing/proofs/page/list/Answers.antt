@@ -1,7 +1,6 @@
 -- `list` draws the first choice, and puts the counts and the choices.
 use native.Mathlib.Omega.{arith}
 use Rattle.listing.proofs.Showing.{blank, small_answer, refused_page, few_meshes, few_backs, listable_after, place_low, listed_page}
-use borrow.Author.Rules.{rules}
 use Rattle.listing.proofs.page.list.Goals as goal
 
 pub put_answer-requires : goal.put_answer-requires

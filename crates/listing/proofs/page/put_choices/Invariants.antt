@@ -1,7 +1,6 @@
 -- `put_choices` puts the line of each choice, and asks for the next.
 use Rattle.network.specs.Network.{network}
-use Rattle.listing.proofs.Stepping.{Stepping, stepping_none, line_fits, answer_fits, choice_long, stepped_long, no_more, stepping_more, last_fits, moved_long, small_number, ended_long, ended}
-use borrow.Author.Rules.{rules}
+use Rattle.listing.proofs.Stepping.{Stepping}
 use Rattle.listing.proofs.page.put_choices.Given as goal
 
 abbrev pub invariant-loop-left : goal.invariant-loop-left

@@ -1,6 +1,5 @@
 -- `show` asks for the first choice, and puts its page or the ring's.
 use Rattle.listing.proofs.Showing.{blank, ringable, ring_shown, sheetable, list_shown}
-use borrow.Author.Rules.{rules}
 use Rattle.listing.proofs.page.show.Goals as goal
 
 pub put_ring-requires : goal.put_ring-requires

@@ -1,6 +1,5 @@
 -- `put_answer` stores the two digits and the line feed.
 use Rattle.listing.proofs.Putting.{answered}
-use borrow.Author.Rules.{rules}
 use Rattle.listing.proofs.pieces.put_answer.Goals as goal
 
 pub returns : goal.returns

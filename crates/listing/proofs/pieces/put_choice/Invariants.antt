@@ -1,8 +1,7 @@
 -- `put_choice` goes over the lines: those with a side add its two digits.
 use Prim.Native.Nat.{◌-◌}
 use lib.ListN.{length}
-use Rattle.listing.proofs.Putting.{Putting, putting_none, next_fits, feed_fits, putting_more, choice_put, choice_long}
-use borrow.Author.Rules.{rules}
+use Rattle.listing.proofs.Putting.{Putting}
 use Rattle.listing.proofs.pieces.put_choice.Given as goal
 
 abbrev pub invariant-loop-k : goal.invariant-loop-k

@@ -1,6 +1,5 @@
 -- `put_counts` stores its three numbers and the line feed.
 use Rattle.listing.proofs.Putting.{three_long, counted}
-use borrow.Author.Rules.{rules}
 use Rattle.listing.proofs.pieces.put_counts.Goals as goal
 
 pub shape_of-out : goal.shape_of-out

@@ -1,7 +1,5 @@
 -- `put_ring` goes over the steps: each adds its line.
-use Prim.Native.Nat.{◌-◌}
-use Rattle.listing.proofs.Putting.{Ringing, size_fits, size_small, ringing_none, line_in, step_fits, ringing_step, ring_put, ring_long}
-use borrow.Author.Rules.{rules}
+use Rattle.listing.proofs.Putting.{size_fits, size_small, ringing_none, step_fits, ringing_step, ring_put, ring_long}
 use Rattle.listing.proofs.pieces.put_ring.Goals as goal
 
 pub put_size-to-requires : goal.put_size-to-requires

@@ -1,7 +1,6 @@
 -- `put_ring` goes over the steps: each adds its line.
 use Prim.Native.Nat.{◌-◌}
-use Rattle.listing.proofs.Putting.{Ringing, size_fits, size_small, ringing_none, line_in, step_fits, ringing_step, ring_put, ring_long}
-use borrow.Author.Rules.{rules}
+use Rattle.listing.proofs.Putting.{Ringing}
 use Rattle.listing.proofs.pieces.put_ring.Given as goal
 
 abbrev pub invariant-loop-i : goal.invariant-loop-i

@@ -1,6 +1,5 @@
 -- `put_side` stores two digits, or nothing.
 use Rattle.listing.proofs.Putting.{side_none, side_put}
-use borrow.Author.Rules.{rules}
 use Rattle.listing.proofs.pieces.put_side.Goals as goal
 
 pub returns-then-side-eq-TREE : goal.returns-then-side-eq-TREE

@@ -1,6 +1,5 @@
 -- `put_size` stores its two numbers and the line feed.
 use Rattle.listing.proofs.Putting.{two_long, sized}
-use borrow.Author.Rules.{rules}
 use Rattle.listing.proofs.pieces.put_size.Goals as goal
 
 pub shape_of-out : goal.shape_of-out

@@ -1,6 +1,5 @@
 -- `put_step` stores its two numbers and the line feed.
 use Rattle.listing.proofs.Putting.{two_long, stepped}
-use borrow.Author.Rules.{rules}
 use Rattle.listing.proofs.pieces.put_step.Goals as goal
 
 pub shape_of-out : goal.shape_of-out

@@ -1,8 +1,6 @@
 -- The first i places of v are done.
-use Prim.Native.Nat.{◌-◌}
 use native.Mathlib.Omega.{arith}
-use Rattle.meshes.proofs.Linkable.{Linkable, link_rises, link_start, link_few, link_end, link_few_next, link_end_next, link_more, link_done}
-use borrow.Author.Rules.{rules}
+use Rattle.meshes.proofs.Linkable.{link_rises, link_start, link_few, link_end, link_few_next, link_end_next, link_more, link_done}
 use Rattle.meshes.proofs.turns.link.Goals as goal
 
 pub overflow_sub-count : goal.overflow_sub-count

@@ -1,7 +1,5 @@
 -- What arrives at a vertex below v has what follows it.
-use Prim.Native.Nat.{◌-◌}
-use borrow.Author.Rules.{rules}
-use Rattle.meshes.proofs.Linkable.{Linkeds, linkeds_start, linkeds_more, linkeds_done}
+use Rattle.meshes.proofs.Linkable.{linkeds_start, linkeds_more, linkeds_done}
 use Rattle.meshes.proofs.turns.linked.Goals as goal
 
 pub loop-v-init : goal.loop-v-init

@@ -1,7 +1,6 @@
 -- What arrives at a vertex below v has what follows it.
 use Prim.Native.Nat.{◌-◌}
-use borrow.Author.Rules.{rules}
-use Rattle.meshes.proofs.Linkable.{Linkeds, linkeds_start, linkeds_more, linkeds_done}
+use Rattle.meshes.proofs.Linkable.{Linkeds}
 use Rattle.meshes.proofs.turns.linked.Given as goal
 
 abbrev pub invariant-loop-v : goal.invariant-loop-v

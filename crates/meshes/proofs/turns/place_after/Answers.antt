@@ -1,7 +1,6 @@
 -- `place_after` by its two ways.
 use native.Mathlib.Omega.{arith}
 use Rattle.meshes.proofs.Links.{place_more, place_round}
-use borrow.Author.Rules.{rules}
 use Rattle.meshes.proofs.turns.place_after.Goals as goal
 
 pub returns-then-i-places : goal.returns-then-i-places

@@ -1,7 +1,6 @@
 -- `reversed` by its two ways.
 use native.Mathlib.Omega.{arith}
 use Rattle.meshes.proofs.Links.{back_even, back_odd}
-use borrow.Author.Rules.{rules}
 use Rattle.meshes.proofs.turns.reversed.Goals as goal
 
 pub returns-then-d-eq0 : goal.returns-then-d-eq0

@@ -1,7 +1,6 @@
 -- `way_out` by its two ways.
 use native.Mathlib.Omega.{arith}
 use Rattle.meshes.proofs.Links.{way_first, way_second}
-use borrow.Author.Rules.{rules}
 use Rattle.meshes.proofs.turns.way_out.Goals as goal
 
 pub returns-then-wide-v : goal.returns-then-wide-v

@@ -1,7 +1,5 @@
 -- The first i numbers are laid.
-use Prim.Native.Nat.{◌-◌}
-use native.Mathlib.Omega.{arith}
-use Rattle.laws.proofs.Filling.{Filling, filling_start, filling_more, filling_done}
+use Rattle.laws.proofs.Filling.{filling_start, filling_more, filling_done}
 use Rattle.network.proofs.copies.numbers.Goals as goal
 
 pub loop-i-init : goal.loop-i-init

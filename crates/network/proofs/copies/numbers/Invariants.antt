@@ -1,7 +1,6 @@
 -- The first i numbers are laid.
 use Prim.Native.Nat.{◌-◌}
-use native.Mathlib.Omega.{arith}
-use Rattle.laws.proofs.Filling.{Filling, filling_start, filling_more, filling_done}
+use Rattle.laws.proofs.Filling.{Filling}
 use Rattle.network.proofs.copies.numbers.Given as goal
 
 abbrev pub invariant-loop-i : goal.invariant-loop-i

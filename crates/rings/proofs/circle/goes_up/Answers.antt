@@ -1,6 +1,5 @@
 -- `goes_up` compares the neighbours, or looks at the first kind of a ring of two.
 use Rattle.rings.proofs.Reading.{next_inside, next_fits, before_inside, before_fits, upward_two, upward_more}
-use borrow.Author.Rules.{rules}
 use Rattle.rings.proofs.circle.goes_up.Goals as goal
 
 pub returns-then-n-eq2 : goal.returns-then-n-eq2

@@ -1,6 +1,5 @@
 -- `kind_at` computes its definition.
 use Rattle.rings.proofs.Reading.{kind_home, kind_here, kind_there, kind_on}
-use borrow.Author.Rules.{rules}
 use Rattle.rings.proofs.circle.kind_at.Goals as goal
 
 pub returns-then-i-n : goal.returns-then-i-n

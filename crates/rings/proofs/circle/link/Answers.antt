@@ -1,6 +1,5 @@
 -- `link` computes its definition, and stays within the circle.
 use Rattle.rings.proofs.Reading.{link_up, link_down}
-use borrow.Author.Rules.{rules}
 use Rattle.rings.proofs.circle.link.Goals as goal
 
 pub returns-then-up : goal.returns-then-up

@@ -1,7 +1,5 @@
 -- `lowest` keeps the place of the lowest line so far.
-use Prim.Native.Nat.{◌-◌}
-use Rattle.rings.proofs.Reading.{Seen, seen_one, lowest_inside, seen_lower, seen_other, seen_all}
-use borrow.Author.Rules.{rules}
+use Rattle.rings.proofs.Reading.{seen_one, lowest_inside, seen_lower, seen_other, seen_all}
 use Rattle.rings.proofs.circle.lowest.Goals as goal
 
 pub loop-i-init : goal.loop-i-init

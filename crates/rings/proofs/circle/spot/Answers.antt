@@ -1,6 +1,5 @@
 -- `spot` computes its definition, and stays within the circle.
 use Rattle.rings.proofs.Reading.{spot_up, spot_down}
-use borrow.Author.Rules.{rules}
 use Rattle.rings.proofs.circle.spot.Goals as goal
 
 pub returns-then-up : goal.returns-then-up

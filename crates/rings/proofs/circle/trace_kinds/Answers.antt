@@ -1,8 +1,6 @@
 -- `trace_kinds` writes the kinds from the front.
-use Prim.Native.Nat.{◌-◌}
-use Rattle.groups.proofs.Filling.{Filled, filled_none}
-use Rattle.rings.proofs.Reading.{RingKinds, kinds_more, kinds_traced}
-use borrow.Author.Rules.{rules}
+use Rattle.groups.proofs.Filling.{filled_none}
+use Rattle.rings.proofs.Reading.{kinds_more, kinds_traced}
 use Rattle.rings.proofs.circle.trace_kinds.Goals as goal
 
 pub loop-j-init : goal.loop-j-init

@@ -1,8 +1,7 @@
 -- `trace_kinds` writes the kinds from the front.
 use Prim.Native.Nat.{◌-◌}
-use Rattle.groups.proofs.Filling.{Filled, filled_none}
-use Rattle.rings.proofs.Reading.{RingKinds, kinds_more, kinds_traced}
-use borrow.Author.Rules.{rules}
+use Rattle.groups.proofs.Filling.{Filled}
+use Rattle.rings.proofs.Reading.{RingKinds}
 use Rattle.rings.proofs.circle.trace_kinds.Given as goal
 
 abbrev pub invariant-loop-j : goal.invariant-loop-j

@@ -1,8 +1,6 @@
 -- `trace_lines` writes the ring from the front.
-use Prim.Native.Nat.{◌-◌}
-use Rattle.groups.proofs.Filling.{Filled, filled_none}
-use Rattle.rings.proofs.Reading.{RingLines, lines_more, lines_traced}
-use borrow.Author.Rules.{rules}
+use Rattle.groups.proofs.Filling.{filled_none}
+use Rattle.rings.proofs.Reading.{lines_more, lines_traced}
 use Rattle.rings.proofs.circle.trace_lines.Goals as goal
 
 pub loop-j-init : goal.loop-j-init

@@ -1,8 +1,7 @@
 -- `trace_lines` writes the ring from the front.
 use Prim.Native.Nat.{◌-◌}
-use Rattle.groups.proofs.Filling.{Filled, filled_none}
-use Rattle.rings.proofs.Reading.{RingLines, lines_more, lines_traced}
-use borrow.Author.Rules.{rules}
+use Rattle.groups.proofs.Filling.{Filled}
+use Rattle.rings.proofs.Reading.{RingLines}
 use Rattle.rings.proofs.circle.trace_lines.Given as goal
 
 abbrev pub invariant-loop-j : goal.invariant-loop-j

@@ -1,7 +1,5 @@
 -- `flood` looks from one place of the queue after the other, until d is reached.
-use Prim.Native.Nat.{◌-◌}
-use Rattle.rings.proofs.Flooding.{Flood, flood_start, head_small, flood_less, flood_scanning, flood_more, flood_done}
-use borrow.Author.Rules.{rules}
+use Rattle.rings.proofs.Flooding.{flood_start, head_small, flood_less, flood_scanning, flood_more, flood_done}
 use Rattle.rings.proofs.flood.flood.Goals as goal
 
 pub loop-queue-init : goal.loop-queue-init

@@ -1,6 +1,5 @@
 -- `look` finds a line that is reached, or puts a new one behind the queue.
 use Rattle.rings.proofs.Flooding.{y_small, n_small, look_old, look_new}
-use borrow.Author.Rules.{rules}
 use Rattle.rings.proofs.flood.look.Goals as goal
 
 pub bounds-via-y : goal.bounds-via-y

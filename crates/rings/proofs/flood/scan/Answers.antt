@@ -1,7 +1,5 @@
 -- `scan` looks along one half-step of x after the other.
-use Prim.Native.Nat.{◌-◌, ◌*◌}
-use Rattle.rings.proofs.Flooding.{Along, along_start, along_looking, along_less, along_more, along_done}
-use borrow.Author.Rules.{rules}
+use Rattle.rings.proofs.Flooding.{along_start, along_looking, along_less, along_more, along_done}
 use Rattle.rings.proofs.flood.scan.Goals as goal
 
 pub loop-s-init : goal.loop-s-init

@@ -1,7 +1,6 @@
 -- `scan` looks along one half-step of x after the other.
 use Prim.Native.Nat.{◌-◌, ◌*◌}
-use Rattle.rings.proofs.Flooding.{Along, along_start, along_looking, along_less, along_more, along_done}
-use borrow.Author.Rules.{rules}
+use Rattle.rings.proofs.Flooding.{Along}
 use Rattle.rings.proofs.flood.scan.Given as goal
 
 abbrev pub invariant-loop-s : goal.invariant-loop-s

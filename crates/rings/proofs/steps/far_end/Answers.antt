@@ -1,6 +1,5 @@
 -- `far_end` reads the other one.
 use Rattle.rings.proofs.Halves.{far_even, far_odd}
-use borrow.Author.Rules.{rules}
 use Rattle.rings.proofs.steps.far_end.Goals as goal
 
 pub returns-then-s-eq0 : goal.returns-then-s-eq0

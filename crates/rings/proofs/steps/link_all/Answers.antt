@@ -1,9 +1,6 @@
 -- `link_all` makes the chains: the half-steps passed so far are laid.
-use Prim.Native.Nat.{◌*◌}
-use Rattle.laws.proofs.Chaining.{Linking, linking_start, linking_place, linking_vertex, linking_more, linking_done}
-use Rattle.rings.specs.Flooding.{leaves}
+use Rattle.laws.proofs.Chaining.{linking_start, linking_place, linking_vertex, linking_more, linking_done}
 use Rattle.rings.proofs.Halves.{chainable}
-use borrow.Author.Rules.{rules}
 use Rattle.rings.proofs.steps.link_all.Goals as goal
 
 pub loop-s-init : goal.loop-s-init

@@ -1,9 +1,7 @@
 -- `link_all` makes the chains: the half-steps passed so far are laid.
 use Prim.Native.Nat.{◌*◌}
-use Rattle.laws.proofs.Chaining.{Linking, linking_start, linking_place, linking_vertex, linking_more, linking_done}
+use Rattle.laws.proofs.Chaining.{Linking}
 use Rattle.rings.specs.Flooding.{leaves}
-use Rattle.rings.proofs.Halves.{chainable}
-use borrow.Author.Rules.{rules}
 use Rattle.rings.proofs.steps.link_all.Given as goal
 
 abbrev pub invariant-loop-s : goal.invariant-loop-s

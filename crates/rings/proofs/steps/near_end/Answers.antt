@@ -1,6 +1,5 @@
 -- `near_end` reads the first line of the joining, or its second.
 use Rattle.rings.proofs.Halves.{near_even, near_odd}
-use borrow.Author.Rules.{rules}
 use Rattle.rings.proofs.steps.near_end.Goals as goal
 
 pub returns-then-s-eq0 : goal.returns-then-s-eq0

@@ -1,8 +1,5 @@
 -- `chain` makes the chains: the half-lines passed so far are laid.
-use lib.ListN.{length}
-use Rattle.laws.specs.Lists.{at}
-use Rattle.laws.proofs.Chaining.{Linking, linking_start, linking_place, linking_vertex, linking_more, linking_done}
-use borrow.Author.Rules.{rules}
+use Rattle.laws.proofs.Chaining.{linking_start, linking_place, linking_vertex, linking_more, linking_done}
 use Rattle.search.proofs.chains.chain.Goals as goal
 
 pub loop-h-init : goal.loop-h-init

@@ -1,8 +1,7 @@
 -- `chain` makes the chains: the half-lines passed so far are laid.
 use lib.ListN.{length}
 use Rattle.laws.specs.Lists.{at}
-use Rattle.laws.proofs.Chaining.{Linking, linking_start, linking_place, linking_vertex, linking_more, linking_done}
-use borrow.Author.Rules.{rules}
+use Rattle.laws.proofs.Chaining.{Linking}
 use Rattle.search.proofs.chains.chain.Given as goal
 
 abbrev pub invariant-loop-h : goal.invariant-loop-h

@@ -1,6 +1,5 @@
 -- `visit` meets its contract: the loop keeps `Going`, and at each call of itself the unfound vertices and the unused lines are fewer.
 use native.Mathlib.Omega.{arith}
-use borrow.Author.Rules.{rules}
 use Rattle.search.proofs.Going.{visit_half, visit_start, visit_done, visit_further, visit_skip, visit_room, visit_back, visit_enter, visit_in, visit_less, visit_deep}
 use Rattle.search.proofs.visits.+visit.Goals as goal
 
@@ -29,15 +28,16 @@ pub enter-requires : goal.enter-requires
 enter-requires t c = visit_enter c.requires.chained c.requires.some_count.asked (c.loop-h.invariant _ c.requires.some_count.asked) c.loop-h-test.true c.wide-after.ensures c.if-kinds-k-eq-UNUSED.true c.far-w.ensures c.if-found-w-eq0.true
 
 pub visit-requires : goal.visit-requires
-visit-requires t c =
-    (
-      omega (arith, visit_less c.requires.chained c.requires.some_count.asked (c.loop-h.invariant _ c.requires.some_count.asked) c.loop-h-test.true c.wide-after.ensures c.if-kinds-k-eq-UNUSED.true c.far-w.ensures c.if-found-w-eq0.true c.enter.ensures, c.decreases),
-      (c.requires.chained,
-      record {
-        count = c.requires.some_count.count;
-        asked = record { fit = c.requires.some_count.asked.fit; ready = visit_in c.requires.chained c.requires.some_count.asked (c.loop-h.invariant _ c.requires.some_count.asked) c.loop-h-test.true c.wide-after.ensures c.if-kinds-k-eq-UNUSED.true c.far-w.ensures c.if-found-w-eq0.true c.enter.ensures };
-      }),
-    )
+visit-requires t c = (
+  omega (arith, visit_less c.requires.chained c.requires.some_count.asked (c.loop-h.invariant _ c.requires.some_count.asked) c.loop-h-test.true c.wide-after.ensures c.if-kinds-k-eq-UNUSED.true c.far-w.ensures c.if-found-w-eq0.true c.enter.ensures, c.decreases),
+  (
+    c.requires.chained,
+    record {
+      count = c.requires.some_count.count;
+      asked = record { fit = c.requires.some_count.asked.fit; ready = visit_in c.requires.chained c.requires.some_count.asked (c.loop-h.invariant _ c.requires.some_count.asked) c.loop-h-test.true c.wide-after.ensures c.if-kinds-k-eq-UNUSED.true c.far-w.ensures c.if-found-w-eq0.true c.enter.ensures };
+    },
+  ),
+)
 
 pub loop-h-smaller-then-found-w-eq0 : goal.loop-h-smaller-then-found-w-eq0
 loop-h-smaller-then-found-w-eq0 t c = visit_further c.requires.chained c.requires.some_count.asked (c.loop-h.invariant _ c.requires.some_count.asked) c.loop-h-test.true c.wide-after.ensures

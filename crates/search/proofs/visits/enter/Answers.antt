@@ -1,6 +1,5 @@
 -- `enter` makes the step that finds a vertex.
 use Rattle.search.proofs.Going.{enter_leaves}
-use borrow.Author.Rules.{rules}
 use Rattle.search.proofs.visits.enter.Goals as goal
 
 pub returns : goal.returns

@@ -1,8 +1,6 @@
 -- `are_frames` computes its definition: the places of the frames passed so far are right.
-use Prim.Native.Nat.{◌+◌, ◌-◌}
 use borrow.Author.Tests.{not-true, not-false}
-use Rattle.text.proofs.Places.{Rights, rights_start, rights_more, rights_no, rights_all}
-use borrow.Author.Rules.{rules}
+use Rattle.text.proofs.Places.{rights_start, rights_more, rights_no, rights_all}
 use Rattle.text.proofs.form.are_frames.Goals as goal
 
 pub loop-k-init : goal.loop-k-init

@@ -1,7 +1,6 @@
 -- `has_form` computes its definition: the first frame, the length that it asks, and the other frames.
 use borrow.Author.Tests.{not-true}
 use Rattle.text.proofs.Places.{form_short, form_no_first, lines_word, form_no_room, opened, form_last}
-use borrow.Author.Rules.{rules}
 use Rattle.text.proofs.form.has_form.Goals as goal
 
 pub returns-then-text-lt9 : goal.returns-then-text-lt9

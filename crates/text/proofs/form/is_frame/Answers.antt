@@ -2,7 +2,6 @@
 use Rattle.std.proofs.Common.{ap}
 use mathlib.Core.Bool.{not}
 use Rattle.text.proofs.Places.{frame_no_first, frame_no_second, frame_last}
-use borrow.Author.Rules.{rules}
 use Rattle.text.proofs.form.is_frame.Goals as goal
 
 pub returns-then-not-is_word : goal.returns-then-not-is_word

@@ -1,6 +1,5 @@
 -- `put_frame` stores two words and a line feed.
 use Rattle.text.proofs.Filling.{frame_put, frame_put_long}
-use borrow.Author.Rules.{rules}
 use Rattle.text.proofs.frames.put_frame.Goals as goal
 
 pub shape_of-text : goal.shape_of-text

@@ -1,7 +1,5 @@
 -- `put_lines` puts the frames of the lines one after the other.
-use Prim.Native.Nat.{◌-◌}
-use Rattle.text.proofs.Filling.{Put, put_start, put_room, put_more, put_all}
-use borrow.Author.Rules.{rules}
+use Rattle.text.proofs.Filling.{put_start, put_room, put_more, put_all}
 use Rattle.text.proofs.frames.put_lines.Goals as goal
 
 pub loop-k-init : goal.loop-k-init

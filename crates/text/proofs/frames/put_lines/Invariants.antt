@@ -1,7 +1,6 @@
 -- `put_lines` puts the frames of the lines one after the other.
 use Prim.Native.Nat.{◌-◌}
-use Rattle.text.proofs.Filling.{Put, put_start, put_room, put_more, put_all}
-use borrow.Author.Rules.{rules}
+use Rattle.text.proofs.Filling.{Put}
 use Rattle.text.proofs.frames.put_lines.Given as goal
 
 abbrev pub invariant-loop-k : goal.invariant-loop-k

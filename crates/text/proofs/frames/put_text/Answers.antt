@@ -1,6 +1,5 @@
 -- `put_text` puts the first frame and then the lines.
 use Rattle.text.proofs.Filling.{roomy_mid, text_put}
-use borrow.Author.Rules.{rules}
 use Rattle.text.proofs.frames.put_text.Goals as goal
 
 pub put_lines-requires : goal.put_lines-requires

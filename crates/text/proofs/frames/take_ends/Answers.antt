@@ -1,7 +1,5 @@
 -- `take_ends` takes the two numbers of each frame after the first.
-use Prim.Native.Nat.{◌-◌}
-use Rattle.text.proofs.Filling.{Taken, taken_start, first_word, second_word, first_in, second_in, taken_more, taken_all}
-use borrow.Author.Rules.{rules}
+use Rattle.text.proofs.Filling.{taken_start, first_word, second_word, first_in, second_in, taken_more, taken_all}
 use Rattle.text.proofs.frames.take_ends.Goals as goal
 
 pub loop-k-init : goal.loop-k-init

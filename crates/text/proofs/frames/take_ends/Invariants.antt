@@ -1,7 +1,6 @@
 -- `take_ends` takes the two numbers of each frame after the first.
 use Prim.Native.Nat.{◌-◌}
-use Rattle.text.proofs.Filling.{Taken, taken_start, first_word, second_word, first_in, second_in, taken_more, taken_all}
-use borrow.Author.Rules.{rules}
+use Rattle.text.proofs.Filling.{Taken}
 use Rattle.text.proofs.frames.take_ends.Given as goal
 
 abbrev pub invariant-loop-k : goal.invariant-loop-k
