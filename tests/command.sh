@@ -64,7 +64,7 @@ is_proved() { # FILE NAME
         read -r of_file
     } <"$proofs/$2"
     [ "$of_file" = "$(sha256sum <"$root/$1")" ] && [ "$of_sources" = "$(sum_of_sources)" ] || return 1
-    ! command -v rt >/dev/null || [ "$of_kit" = "$(rt version)" ]
+    ! command -v rt >/dev/null || [ "$of_kit" = "$(rt version </dev/null)" ]
 }
 
 # Waits until no other command builds in this repository. The lock is on crates.txt, which is there even when target/ is not.
@@ -139,6 +139,6 @@ prove() { # FILE NAME
     } | show_proofs "$all" >"$log"
     [ "$(cat "$proofs/status")" = 0 ] || fail "$2 was not proved; see $log"
     # Sources that changed meanwhile are proved the next time.
-    { rt version && echo "$sources" && sha256sum <"$root/$1"; } >"$proofs/new" && mv "$proofs/new" "$proofs/$2" ||
+    { rt version </dev/null && echo "$sources" && sha256sum <"$root/$1"; } >"$proofs/new" && mv "$proofs/new" "$proofs/$2" ||
         fail "$2 was proved, but that could not be noted in $proofs"
 }
