@@ -5,8 +5,9 @@
  * six calls. docs/RULES.md is the whole of the rules: it fixes every number that a call returns and every place
  * that it writes, but for which ring is shown. The header needs C99 or C++11.
  *
- * The archive, target/staticlib/libcornetariel.a, comes from `examples/archive`. It holds x86-64 code
- * and asks of the C library memcpy and memset, and nothing that allocates, prints or exits.
+ * The archive, target/staticlib/libcornetariel.a, comes from `examples/archive`. It holds x86-64 code, for
+ * processors of level v2 and higher (SSE4.2 and POPCNT), and asks of the C library memcpy and memset, and
+ * nothing that allocates, prints or exits.
  *
  *
  * A network in memory

@@ -32,7 +32,7 @@ pub fn ordered(
     starts: &mut [u16; 513],
 )
     requires some_tree { SomeTree (λ S. Orderable S vertices lines parents.now forks.now choice.now) }
-    requires order_len { (length order.old ≡ 4096) × (length starts.old ≡ 513) }
+    requires lengths { (length order.old ≡ 4096) × (length starts.old ≡ 513) }
     ensures { EachTree (λ S. Orderable S vertices lines parents.now forks.now choice.now)
         (λ S. LaidOut vertices (order_at S (at choice.now)) order.new starts.new) }
 {
@@ -57,7 +57,7 @@ fn laid(
     starts: &mut [u16; 513],
 )
     requires layable { Layable vertices parents.now uppers.now fans.now groups.now }
-    requires order_len { (length order.old ≡ 4096) × (length starts.old ≡ 513) }
+    requires lengths { (length order.old ≡ 4096) × (length starts.old ≡ 513) }
     ensures { LaidOut vertices (lines_at parents.now uppers.now fans.now groups.now)
         order.new starts.new }
 {

@@ -1,7 +1,5 @@
-// The calls under one roof, for Rattle and for C.
-//
-// For C each call has its slices as a pointer and then a length, and returns its whole answer as one number: see include/cornetariel.h. Their
-// statements say that this number packs an answer that the call's own statement allows with what is in the buffers (specs/Face.antt).
+// The six calls as C is given them: each answers with one number. Its statement says that this number packs an answer that the call's own statement
+// allows with what is in the buffers (specs/Face.antt). The crate cornetariel_c exports them.
 #![tactic(auto)]
 
 ghost use Rattle.std.specs.Prelude.{◌≡◌, ℕ, ◌+◌, ◌*◌, ◌<◌};

@@ -1,4 +1,5 @@
-// The archive for C: each call of `cornetariel` under its own name, with its clauses. See include/cornetariel.h.
+// The archive for C: each call of `cornetariel` under its own name, with its clauses. For C a slice is a pointer and then a length: see
+// include/cornetariel.h. A crate of its own, since a crate that others rest on can't be an archive.
 #![tactic(auto)]
 
 ghost use Rattle.cornetariel.specs.Face.{OrientC, FirstC, NextC, DrawC, ReadC, WriteC};

@@ -23,7 +23,7 @@ pub(crate) fn sketch(
     mesh: &mut [u16; 4096],
     sizes: &mut [u16; 4097],
 ) -> Outline
-    requires ends_in_bounds { length ends.now / 2 ≤ length choice.now }
+    requires choice_long { length ends.now / 2 ≤ length choice.now }
     requires unwritten { Unwritten order.old mesh.old sizes.old }
     ensures { Sketched vertices ends.now choice.now result.number result.count order.new mesh.new sizes.new }
 {

@@ -9,8 +9,8 @@ const SHORT: usize = 4;
 
 // On a way from s, as many steps after it, the jump from s goes on over that from v, and perhaps the jump from p does, which is the one before v.
 pub(crate) fn lengthen(s: usize, p: usize, v: usize, steps: usize, jumps: &mut [u16; 1536])
-    requires placed { Placed s v jumps.old }
-    requires placed_2 { Placed p v jumps.old }
+    requires s_placed { Placed s v jumps.old }
+    requires p_placed { Placed p v jumps.old }
     ensures { Lengthened s p v jumps.old jumps.new }
 {
     extend(s, v, jumps);

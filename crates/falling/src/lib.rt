@@ -161,7 +161,7 @@ fn crown(
     groups: &mut [u16; 8192],
 ) -> Tie
     requires some_tree { SomeTree (λ S. Landing S b x v parents.now jumps.old pairs.old forks.old groups.old) }
-    requires v_value { at jumps.old (1024 + v) ≡ absent }
+    requires none_held { at jumps.old (1024 + v) ≡ absent }
     ensures { EachTree (λ S. Landing S b x v parents.now jumps.old pairs.old forks.old groups.old)
         (λ S. Outcome S groups.old groups.new
         (Passed S b x v jumps.old jumps.new pairs.new forks.new groups.new) result) }

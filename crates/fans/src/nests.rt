@@ -41,7 +41,7 @@ pub(crate) fn sided(lines: usize, forks: &[u16; 10240], choice: &[u8], sides: &m
 
 fn side(lines: usize, k: usize, forks: &[u16; 10240], choice: &[u8]) -> u8
     requires sidable { Sidable lines choice.now }
-    requires k_lt_lines { k < lines }
+    requires k_within { k < lines }
     ensures { result ≡ side_in lines forks.now choice.now k }
 {
     if forks[STOP + k] == NOWHERE {

@@ -16,7 +16,7 @@ use network::{Absent, wide};
 // direction to an empty table, and answers how many meshes there are.
 pub fn numbered(directions: usize, nexts: &[u16; 4096], mesh: &mut [u16; 4096]) -> usize
     requires numberable { Numberable directions nexts.now }
-    requires mesh_value { mesh.old ≡ replicate 4096 absent }
+    requires unmeshed { mesh.old ≡ replicate 4096 absent }
     ensures { Numbered directions nexts.now result mesh.new }
 {
     let mut count = 0;
@@ -48,7 +48,7 @@ fn follow(directions: usize, d: usize, number: usize, nexts: &[u16; 4096], mesh:
 // How many lines each mesh has on it, one that it walks both ways counted once. Written to a table of zeroes.
 pub fn sized(lines: usize, mesh: &[u16; 4096], sizes: &mut [u16; 4097])
     requires meshed { Meshed lines mesh.now }
-    requires sizes_value { sizes.old ≡ replicate 4097 0 }
+    requires no_sizes { sizes.old ≡ replicate 4097 0 }
     ensures { Sized lines mesh.now sizes.new }
 {
     let mut k = 0;

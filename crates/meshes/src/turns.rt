@@ -40,7 +40,7 @@ fn link(
 )
     requires fit { Fit (network_of vertices lines ends.now) }
     requires laid { Laid (network_of vertices lines ends.now) order.now starts.now }
-    requires v_lt_vertices { (v < vertices) × Linked (network_of vertices lines ends.now) order.now starts.now v nexts.old }
+    requires linked_below { (v < vertices) × Linked (network_of vertices lines ends.now) order.now starts.now v nexts.old }
     ensures { Linked (network_of vertices lines ends.now) order.now starts.now (v + 1) nexts.new }
 {
     let from = wide(starts[v]);

@@ -3,7 +3,7 @@ use Rattle.clockwise.proofs.Spreading.{laying_start, laying_begins, laying_sprea
 use Rattle.clockwise.proofs.laid.Goals as goal
 
 pub loop-v-init : goal.loop-v-init
-loop-v-init c = laying_start c.requires.layable c.args.starts.now c.requires.order_len
+loop-v-init c = laying_start c.requires.layable c.args.starts.now c.requires.lengths
 
 pub begun-at-requires : goal.begun-at-requires
 begun-at-requires c = search laying_begins

@@ -5,10 +5,10 @@ use mathlib.Core.List.{[]}
 use Rattle.clockwise.proofs.ordered.Goals as goal
 
 pub fanned-requires : goal.fanned-requires
-fanned-requires c = record { some_tree = record { tree = c.requires.some_tree.tree; asked = order_fannable c.requires.some_tree.asked }; fans_value = refl }
+fanned-requires c = record { some_tree = record { tree = c.requires.some_tree.tree; asked = order_fannable c.requires.some_tree.asked }; no_fans = refl }
 
 pub raised-requires : goal.raised-requires
-raised-requires c = record { some_tree = record { tree = c.requires.some_tree.tree; asked = order_rooted c.requires.some_tree.asked }; uppers_value = refl }
+raised-requires c = record { some_tree = record { tree = c.requires.some_tree.tree; asked = order_rooted c.requires.some_tree.asked }; no_uppers = refl }
 
 pub walk-requires : goal.walk-requires
 walk-requires c = let p = c.requires.some_tree.asked in
@@ -22,7 +22,7 @@ pub laid-requires : goal.laid-requires
 laid-requires c = let p = c.requires.some_tree.asked in
     let f = c.fanned.ensures _ (order_fannable p) in
     let u = c.raised.ensures _ (order_rooted p) in
-    record { layable = order_layable p f u (c.walk.ensures _ [] (order_sets_out p f u)); order_len = c.requires.order_len }
+    record { layable = order_layable p f u (c.walk.ensures _ [] (order_sets_out p f u)); lengths = c.requires.lengths }
 
 pub returns : goal.returns
 returns c = λ S p.

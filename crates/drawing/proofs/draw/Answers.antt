@@ -16,7 +16,7 @@ pub returns-then-is_cramped : goal.returns-then-is_cramped
 returns-then-is_cramped c = draw_cramped _ _ _ _ _ _ _ c.is_oversize.ensures c.if-is_oversize.false _ c.is_odd.ensures c.if-is_odd.false _ c.is_cramped.ensures c.if-is_cramped.true _ c.refused-then-is_cramped.ensures
 
 pub sketch-sketched-requires : goal.sketch-sketched-requires
-sketch-sketched-requires c = record { ends_in_bounds = (roomy _ _ _ _ _ (sym c.is_cramped.ensures ∙ c.if-is_cramped.false)).for_choice; unwritten = record { order_long = refl; no_mesh = refl; no_size = refl } }
+sketch-sketched-requires c = record { choice_long = (roomy _ _ _ _ _ (sym c.is_cramped.ensures ∙ c.if-is_cramped.false)).for_choice; unwritten = record { order_long = refl; no_mesh = refl; no_size = refl } }
 
 pub returns-then-number-ne0 : goal.returns-then-number-ne0
 returns-then-number-ne0 c = draw_refused _ _ _ _ _ _ _ c.is_oversize.ensures c.if-is_oversize.false _ c.is_odd.ensures c.if-is_odd.false _ c.is_cramped.ensures c.if-is_cramped.false _ _ _ _ _ c.sketch-sketched.ensures c.if-number-ne0.true _ c.refused-then-number-ne0.ensures

@@ -29,7 +29,7 @@ pub lengthen-requires : goal.lengthen-requires
 lengthen-requires c = let C = c.requires.asked in
     let D = c.loop-v.invariant _ C in
     let N = holds_of (c.pass.ensures _ (descent_landing C D (omega arith))) c.in-Holds.is in
-    record { placed = lengthen_first C D (omega arith) N.2; placed_2 = lengthen_second C D (omega arith) N.2 }
+    record { s_placed = lengthen_first C D (omega arith) N.2; p_placed = lengthen_second C D (omega arith) N.2 }
 
 pub overflow_add-steps : goal.overflow_add-steps
 overflow_add-steps c = omega (arith, descent_steps c.requires.asked (c.loop-v.invariant _ c.requires.asked) (omega arith))

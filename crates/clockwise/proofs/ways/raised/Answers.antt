@@ -4,7 +4,7 @@ use native.Mathlib.Omega.{arith}
 use Rattle.clockwise.proofs.ways.raised.Goals as goal
 
 pub loop-v-init : goal.loop-v-init
-loop-v-init c = λ S s. raising_start s c.requires.uppers_value
+loop-v-init c = λ S s. raising_start s c.requires.no_uppers
 
 pub offset_bounds-parents-v : goal.offset_bounds-parents-v
 offset_bounds-parents-v c = omega (arith, raising_vertex c.requires.some_tree.asked c.loop-v-test.true)
