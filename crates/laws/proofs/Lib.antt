@@ -18,3 +18,4 @@ pub mod Gathering
 pub mod Agreeing
 pub mod Lengths
 pub mod Keeping
+pub mod Passing

@@ -32,5 +32,5 @@ keep p [] = []
 keep p (x ∷ l) = cond (p x) (x ∷ keep p l) (keep p l)
 
 -- A buffer whose first n numbers are those of a table, and whose rest is as it was.
-abbrev pub filled : ℕ → List ℕ → List ℕ → List ℕ
+abbrev pub filled : {A : Type 0} → ℕ → List A → List A → List A
 filled n table old = take n table ++ drop n old

@@ -2,3 +2,4 @@ pub mod Checks
 pub mod Pairs
 pub mod Lines
 pub mod Sifting
+pub mod Refusing

@@ -14,7 +14,7 @@ use Rattle.laws.proofs.Tests.{either_first, either_of}
 use Rattle.network.specs.Network.{network, Connected}
 use Rattle.network.specs.Numbers.{refused, Untouched, triple, pair, oversize, odd, astray, mispaired, Formed, Checked, Sifted}
 use Rattle.network.specs.Inside.{Fit}
-use Rattle.network.specs.declared.Answer.{Answer}
+use Rattle.network.specs.Numbers.{Answer}
 use Rattle.network.proofs.Checks.{sized, even, none_astray}
 use Rattle.network.proofs.Pairs.{none_looped, loop_yes}
 

@@ -1,9 +1,37 @@
 -- The numbered refusals that a network can meet, in the order of their numbers. (docs/RULES.md, "The numbers".)
-use Rattle.std.specs.Prelude.{Bool, true, false, List, ◌≡◌, ℕ, ◌/◌, ◌%◌, eqb, ltb, leb, get_or, length}
+use Rattle.std.specs.Prelude.{Result, Ok, Err, Bool, true, false, List, ◌≡◌, ℕ, ◌/◌, ◌%◌, eqb, ltb, leb, get_or, length}
 use Rattle.laws.specs.Tests.{either, any}
 use Rattle.laws.specs.Checks.{Check}
 use Rattle.network.specs.Network.{network, first, second, joins, Connected}
-use Rattle.network.specs.declared.Answer.{Answer}
+use Rattle.network.specs.declared.Refusal.{Refusal}
+use Rattle.network.specs.declared.Refusal.TheVariants.{Formless, Oversize, Cramped, Astray, Mispaired, Apart, Ringed, Unaligned, Last, Unbalanced}
+
+-- The number of each refusal.
+abbrev pub refusal_number : Refusal → ℕ
+refusal_number Formless = 1
+refusal_number Oversize = 2
+refusal_number Cramped = 3
+refusal_number Astray = 4
+refusal_number Mispaired = 5
+refusal_number Apart = 6
+refusal_number (Ringed size) = 7
+refusal_number Unaligned = 8
+refusal_number Last = 9
+refusal_number Unbalanced = 10
+
+abbrev pub Numbers : Refusal → ℕ → Type 0
+Numbers r k = k ≡ refusal_number r
+
+-- 0 or the number of a refusal.
+abbrev pub number_of : {A : Type 0} → Result A Refusal → ℕ
+number_of (Ok a) = 0
+number_of (Err r) = refusal_number r
+
+-- What a call answers, in numbers: 0 or that of a refusal, and its counts, which are 0 with a refusal, but for the length of the ring with 7.
+pub record Answer : Type 0 where
+  pub number : ℕ
+  pub count : ℕ
+  pub second : ℕ
 
 -- What a refusal answers: its number, and no counts.
 abbrev pub refused : ℕ → Answer
@@ -12,6 +40,19 @@ refused k = record { number = k; count = 0; second = 0 }
 -- What a call answers that did its work.
 abbrev pub done : ℕ → ℕ → Answer
 done a b = record { number = 0; count = a; second = b }
+
+-- The numbers of a call's result.
+abbrev pub refusing : Refusal → Answer
+refusing (Ringed size) = record { number = 7; count = 0; second = size }
+refusing r = refused (refusal_number r)
+
+abbrev pub answered : Result ℕ Refusal → Answer
+answered (Ok a) = done a 0
+answered (Err r) = refusing r
+
+abbrev pub answered_two : Result (ℕ × ℕ) Refusal → Answer
+answered_two (Ok (a, b)) = done a b
+answered_two (Err r) = refusing r
 
 -- Two buffers that were lent, and three.
 abbrev pub pair : List ℕ → List ℕ → List ℕ × List ℕ

@@ -1,12 +1,13 @@
-// The network that every call is given: its limits, the answer with its number, and checks 2 to 5.
+// The network that every call is given: its limits, the refusals, and checks 2 to 5.
 //
 // Its contracts cite specs/Numbers.antt and specs/Inside.antt.
 #![tactic(auto)]
 
+pub mod chains;
 pub mod copies;
 
-ghost use Rattle.std.specs.Prelude.{◌≡◌, ℕ, ◌+◌, ◌*◌, ◌/◌, ◌≤◌, ◌<◌, length, get_or};
-ghost use Rattle.network.specs.Numbers.{refused, done, oversize, odd, astray, mispaired, Sifted};
+ghost use Rattle.std.specs.Prelude.{◌≡◌, ◌+◌, ◌*◌, ◌/◌, ◌<◌};
+ghost use Rattle.network.specs.Numbers.{Numbers, number_of, oversize, odd, astray, mispaired, Sifted};
 ghost use Rattle.network.specs.Inside.{Paired};
 
 // The most vertices, and the most ends (two to a line), that a network may have.
@@ -14,7 +15,7 @@ pub const VERTICES: usize = 512;
 
 pub const ENDS: usize = 4096;
 
-// What a line is, in the tables of the search.
+// What a line is, in the tables of the search. (Constants and no enum: such a table is copied as it stands into the bytes that C lends orient.)
 #[derive(Drop)]
 pub struct Kind {}
 
@@ -26,51 +27,47 @@ impl Kind {
     pub const UNUSED: u8 = 3;
 }
 
-// What a table has where there is nothing: as its entry, and read as an index.
+// What a table has where there is nothing. (A mark and no Option: memory is fixed, and a table of Options is twice as long. A function answers an Option.)
 #[derive(Drop)]
 pub struct Absent {}
 
 impl Absent {
     pub const ENTRY: u16 = 65535;
-
-    pub const INDEX: usize = 65535;
 }
 
-// What a call answers: 0 or the number of a refusal, and its counts, which are 0 with a refusal.
-#[derive(Drop)]
-pub struct Answer {
-    pub number: usize,
-    pub count: usize,
-    pub second: usize,
+// Why a call did not do its work: each with its number in the rules (`refusal_number`, specs/Numbers.antt).
+#[derive(Clone, Copy, PartialEq, Eq)]
+pub enum Refusal {
+    Formless,
+    Oversize,
+    Cramped,
+    Astray,
+    Mispaired,
+    Apart,
+    // No choice is legal, and a ring of so many lines is written.
+    Ringed(usize),
+    Unaligned,
+    Last,
+    Unbalanced,
 }
 
-impl Answer {
-    pub fn refused(number: usize) -> Answer
-        ensures { result ≡ refused number }
-    {
-        Answer {
-            number,
-            count: 0,
-            second: 0,
+impl From<Refusal> for u8 {
+    ghost from_gives = { Numbers };
+
+    fn from(refusal: Refusal) -> u8 {
+        match refusal {
+            Refusal::Formless => 1,
+            Refusal::Oversize => 2,
+            Refusal::Cramped => 3,
+            Refusal::Astray => 4,
+            Refusal::Mispaired => 5,
+            Refusal::Apart => 6,
+            Refusal::Ringed(_) => 7,
+            Refusal::Unaligned => 8,
+            Refusal::Last => 9,
+            Refusal::Unbalanced => 10,
         }
     }
-
-    pub fn done(count: usize, second: usize) -> Answer
-        ensures { result ≡ done count second }
-    {
-        Answer {
-            number: 0,
-            count,
-            second,
-        }
-    }
-}
-
-// A number as an index.
-pub fn wide(x: u16) -> usize
-    ensures { (result ≡ x) × (result < 65536) }
-{
-    x as usize
 }
 
 // Check 2: too few or too many vertices, or too many ends.
@@ -93,35 +90,33 @@ pub fn is_odd(ends: usize) -> bool
     ends % 2 == 1
 }
 
-// The first of checks 2 to 5 that the network meets by itself, or 0.
-pub fn sift(vertices: usize, ends: &[u16]) -> usize
-    ensures { Sifted vertices ends.now result }
+// The first of checks 2 to 5 that the network meets by itself.
+pub fn sift(vertices: usize, ends: &[u16]) -> Result<(), Refusal>
+    ensures { Sifted vertices ends.now (number_of result) }
 {
     if is_oversize(vertices, ends.len()) {
-        return 2;
+        return Err(Refusal::Oversize);
     }
     if is_odd(ends.len()) {
-        return 3;
+        return Err(Refusal::Cramped);
     }
     if is_astray(vertices, ends) {
-        return 4;
+        return Err(Refusal::Astray);
     }
     if is_mispaired(ends) {
-        return 5;
+        return Err(Refusal::Mispaired);
     }
-    0
+    Ok(())
 }
 
 // Check 4: an end is no vertex.
 fn is_astray(vertices: usize, ends: &[u16]) -> bool
     ensures { result ≡ astray vertices ends.now }
 {
-    let mut i = 0;
-    while i < ends.len() {
-        if vertices <= wide(ends[i]) {
+    for end in ends {
+        if vertices <= *end as usize {
             return true;
         }
-        i += 1;
     }
     false
 }
@@ -133,10 +128,9 @@ fn is_mispaired(ends: &[u16]) -> bool
 {
     let mut seen = [0u8; 262144];
     let lines = ends.len() / 2;
-    let mut k = 0;
-    while k < lines {
-        let a = wide(ends[2 * k]);
-        let b = wide(ends[2 * k + 1]);
+    for k in 0..lines {
+        let a = ends[2 * k] as usize;
+        let b = ends[2 * k + 1] as usize;
         if a == b {
             return true;
         }
@@ -145,7 +139,6 @@ fn is_mispaired(ends: &[u16]) -> bool
         }
         seen[512 * a + b] = 1;
         seen[512 * b + a] = 1;
-        k += 1;
     }
     false
 }

@@ -1,5 +1,7 @@
 -- The two sides, what stands where there is none, and what a constraint asks of two lines' sides. (docs/RULES.md, "Choices" and "Rings".)
-use Rattle.std.specs.Prelude.{cond, ℕ, eqb}
+use Rattle.std.specs.Prelude.{cond, ◌≡◌, ℕ, eqb}
+use Rattle.side.specs.declared.Wants.{Wants}
+use Rattle.side.specs.declared.Wants.TheVariants.{Same, Different}
 
 abbrev pub left : ℕ
 left = 0
@@ -20,3 +22,11 @@ same = 0
 
 abbrev pub different : ℕ
 different = 1
+
+-- .. as the program has it.
+abbrev pub code : Wants → ℕ
+code Same = same
+code Different = different
+
+abbrev pub Coded : Wants → ℕ → Type 0
+Coded wants k = k ≡ code wants

@@ -4,8 +4,9 @@
 #![tactic(auto)]
 
 ghost use Rattle.std.specs.Prelude.{◌≡◌};
-ghost use Rattle.side.specs.Sides.{opposite};
+ghost use Rattle.side.specs.Sides.{opposite, Coded};
 
+// Constants and no enum: the C interface; a choice that is lent may have any byte, and `opposite` (specs/Sides.antt) answers for each.
 #[derive(Drop)]
 pub struct Side {}
 
@@ -27,12 +28,17 @@ impl Side {
     }
 }
 
-// What a constraint asks of the sides of its two lines.
-#[derive(Drop)]
-pub struct Wants {}
+// What a constraint asks of the sides of its two lines. As a byte it is the number that the rules give it, and a ring's kinds are written by.
+#[derive(Clone, Copy, PartialEq, Eq)]
+pub enum Wants {
+    Same,
+    Different,
+}
 
-impl Wants {
-    pub const SAME: u8 = 0;
+impl From<Wants> for u8 {
+    ghost from_gives = { Coded };
 
-    pub const DIFFERENT: u8 = 1;
+    fn from(wants: Wants) -> u8 {
+        wants as u8
+    }
 }
