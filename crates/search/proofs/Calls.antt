@@ -12,7 +12,7 @@ use Rattle.laws.proofs.Tests.{either_first, either_second, either_no}
 use Rattle.network.specs.Network.{network, Connected}
 use Rattle.network.specs.Numbers.{refused, done, oversize, odd, Sifted, Untouched, pair}
 use Rattle.network.specs.Inside.{Fit}
-use Rattle.network.specs.declared.Answer.{Answer}
+use Rattle.network.specs.Numbers.{Answer}
 use Rattle.network.proofs.Sifting.{sift_fit, sift_refused, sift_connected, refuse_2, refuse_3, refuse_rest, checked_map, checked_elim, checked_once, untouched, two_untouched_once}
 use Rattle.search.specs.Orient.{Orient, Oriented, cramped, back_lines}
 use Rattle.search.specs.Inside.{Search, search_of, Explored, Faulted, searched, Ended}
@@ -48,6 +48,10 @@ explored n ends r x z =
     checked_elim n ends false (λ k. r.number ≡ k) (r ≡ searched (network n ends)) x
     (λ k some few (e : r.number ≡ k). absurd (omega arith))
     (λ f c e. (f, c, e))
+
+-- what it refuses is 2 to 6
+pub faulted_few : (n : ℕ) (ends : List ℕ) (r : ℕ) → Faulted n ends r → r ≤ 6
+faulted_few n ends r x = checked_elim n ends false (λ k. r ≡ k) (r ≡ 0) x (λ k some few e. omega arith) (λ f c e. omega arith)
 
 -- orient
 

@@ -247,22 +247,22 @@ module _ {ends : List ℕ} {heads nexts : List ℕ} (chain : Chained 512 4096 (l
   abbrev Loop : List ℕ → List ℕ → List ℕ → List ℕ → ℕ → Type 0
   Loop ks fs hs ps h = Going (network n ends) (state v ks₀ fs₀ hs₀ ps₀) ks fs hs ps h
 
-  pub visit_start : (h : ℕ) → (h ≡ get_or heads v 0) × (h < 65536) → Loop ks₀ fs₀ hs₀ ps₀ h
+  pub visit_start : (h : ℕ) → h ≡ get_or heads v 0 → Loop ks₀ fs₀ hs₀ ps₀ h
   visit_start h is =
       let few = fit.few_vertices in
       let in_n = ready.here in
-      going_start (network n ends) fit (state v ks₀ fs₀ hs₀ ps₀) ready h (subst (λ (i : ℕ). Follows (length ends) (at ends) v 0 i) (sym is.0) (chain.heads_are v (omega arith)))
+      going_start (network n ends) fit (state v ks₀ fs₀ hs₀ ps₀) ready h (subst (λ (i : ℕ). Follows (length ends) (at ends) v 0 i) (sym is) (chain.heads_are v (omega arith)))
 
   module _ {ks fs hs ps : List ℕ} {h : ℕ} (g : Loop ks fs hs ps h) where
     pub visit_done : length ends ≤ h → Visited (network n ends) (state v ks₀ fs₀ hs₀ ps₀) (state v ks fs hs ps)
     visit_done l = going_done (network n ends) fit (state v ks₀ fs₀ hs₀ ps₀) ready ks fs hs ps h g (omega (arith, even))
 
-    module _ (inside : h < length ends) {next : ℕ} (is_next : (next ≡ get_or nexts h 0) × (next < 65536)) where
+    module _ (inside : h < length ends) {next : ℕ} (is_next : next ≡ get_or nexts h 0) where
       lt : h < 2 * (length ends / 2)
       lt = omega (arith, even)
 
       on : Follows (length ends) (at ends) (get_or ends h 0) (h + 1) next
-      on = let long = fit.ends_long in subst (λ (i : ℕ). Follows (length ends) (at ends) (get_or ends h 0) (h + 1) i) (sym is_next.0) (chain.nexts_are h (omega arith))
+      on = let long = fit.ends_long in subst (λ (i : ℕ). Follows (length ends) (at ends) (get_or ends h 0) (h + 1) i) (sym is_next) (chain.nexts_are h (omega arith))
 
       pub visit_further : length ends - next < length ends - h
       visit_further = omega (arith, on.from, inside)
@@ -270,9 +270,9 @@ module _ {ends : List ℕ} {heads nexts : List ℕ} (chain : Chained 512 4096 (l
       pub visit_skip : (get_or ks (h / 2) 0 ≡ 3 → ⊥) → Loop ks fs hs ps next
       visit_skip d = going_skip (network n ends) fit (state v ks₀ fs₀ hs₀ ps₀) ready ks fs hs ps h g lt next on (used_not_free ends ks v (h / 2) d)
 
-      module _ (free_here : get_or ks (h / 2) 0 ≡ 3) {w : ℕ} (is_w : (w ≡ get_or ends (partner h) 0) × (w < 65536)) where
+      module _ (free_here : get_or ks (h / 2) 0 ≡ 3) {w : ℕ} (is_w : w ≡ get_or ends (partner h) 0) where
         w_is : w ≡ other ends v (h / 2)
-        w_is = is_w.0 ∙ half_other ends v h (g.at lt) (fit.apart (h / 2) (omega (arith, lt)))
+        w_is = is_w ∙ half_other ends v h (g.at lt) (fit.apart (h / 2) (omega (arith, lt)))
 
         visit_far : w < n
         visit_far = subst (λ (i : ℕ). i < n) (sym w_is) (other_in (network n ends) fit v (h / 2) (omega (arith, lt)))
@@ -337,13 +337,13 @@ enter_leaves v w k ks fs hs ps e =
     }
 
 -- the partner of a half-line
-pub far_even : (ends : List ℕ) (h r : ℕ) → h % 2 ≡ 0 → (r ≡ get_or ends (h + 1) 0) × (r < 65536) → r ≡ get_or ends (partner h) 0
+pub far_even : (ends : List ℕ) (h r : ℕ) → h % 2 ≡ 0 → r ≡ get_or ends (h + 1) 0 → r ≡ get_or ends (partner h) 0
 unfolding partner
-far_even ends h r e is = rw (eq-eqb (h % 2) 0 e) is.0
+far_even ends h r e is = rw (eq-eqb (h % 2) 0 e) is
 
-pub far_odd : (ends : List ℕ) (h r : ℕ) → (h % 2 ≡ 0 → ⊥) → (r ≡ get_or ends (h - 1) 0) × (r < 65536) → r ≡ get_or ends (partner h) 0
+pub far_odd : (ends : List ℕ) (h r : ℕ) → (h % 2 ≡ 0 → ⊥) → r ≡ get_or ends (h - 1) 0 → r ≡ get_or ends (partner h) 0
 unfolding partner
-far_odd ends h r d is = rw (ne_eqb (h % 2) 0 d) is.0
+far_odd ends h r d is = rw (ne_eqb (h % 2) 0 d) is
 
 pub far_in : (ends : List ℕ) (h : ℕ) → Halved h ends → h % 2 ≡ 0 → h + 1 < length ends
 unfolding partner

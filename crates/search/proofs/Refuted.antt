@@ -11,7 +11,7 @@ use Rattle.laws.proofs.Cases.{true_false}
 use Rattle.laws.proofs.Tests.{either_neither}
 use Rattle.network.specs.Network.{network, touches, other, joins}
 use Rattle.network.specs.Numbers.{refused, oversize, odd, astray, looped, doubled, mispaired}
-use Rattle.network.specs.declared.Answer.{Answer}
+use Rattle.network.specs.Numbers.{Answer}
 use Rattle.network.proofs.Sifting.{fit_when}
 use Rattle.search.specs.Machine.{free, lowest_free, take_line, leave, go, step, run, start, finished}
 use Rattle.search.specs.Orient.{Orient, Oriented, cramped}

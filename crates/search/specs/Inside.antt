@@ -1,13 +1,15 @@
 -- What functions inside ask of each other. A reader of the calls' statements need not believe any of it.
-use Rattle.std.specs.Prelude.{Bool, false, cond, not, List, ◌≡◌, ℕ, suc, ◌+◌, ◌-◌, ◌%◌, ◌≤◌, ◌<◌, eqb, get_or, set, length, take, replicate}
+use Rattle.std.specs.Prelude.{Result, Ok, Err, [], Bool, false, cond, not, List, ◌≡◌, ℕ, suc, ◌+◌, ◌-◌, ◌%◌, ◌≤◌, ◌<◌, eqb, get_or, set, length, take}
 use Rattle.laws.specs.Checks.{Check}
 use Rattle.laws.specs.Counting.{many}
 use Rattle.laws.specs.Tests.{all}
 use Rattle.network.specs.Network.{Network, network, Connected}
-use Rattle.network.specs.Numbers.{Checked}
+use Rattle.network.specs.Numbers.{Checked, refusal_number}
+use Rattle.network.specs.declared.Refusal.{Refusal}
 use Rattle.network.specs.Inside.{Fit}
 use Rattle.network.specs.Marks.{tree, unused}
-use Rattle.search.specs.Machine.{State, free, run, finished}
+use Rattle.search.specs.declared.Finds.{Finds}
+use Rattle.search.specs.Machine.{State, state, free, run, finished}
 
 -- What every call that needs the tree is given: the number of the network's own refusal, or 0 and the tables of the search.
 pub record Search : Type 0 where
@@ -21,6 +23,15 @@ search_of number kinds heights parents = record { number = number; kinds = kinds
 
 abbrev pub searched : Network → Search
 searched net = search_of 0 (finished net).kind (finished net).height (finished net).parent
+
+-- .. that a result tells of: with a refusal nothing is said of the tables.
+abbrev pub search_in : Result Finds Refusal → Search
+search_in (Ok finds) = search_of 0 finds.kinds finds.heights finds.parents
+search_in (Err r) = search_of (refusal_number r) [] [] []
+
+-- The state of a search that stands at v.
+abbrev pub state_of : ℕ → Finds → State
+state_of v finds = state v finds.kinds finds.found finds.heights finds.parents
 
 -- The number alone.
 abbrev pub Faulted : ℕ → List ℕ → ℕ → Type 0
@@ -96,12 +107,6 @@ EachCount Asked Promised = (n : ℕ) → Asked n → Promised n
 pub record Visitable (n : ℕ) (ends : List ℕ) (s : State) : Type 0 where
   pub fit : Fit (network n ends)
   pub ready : Ready (network n ends) s
-
--- The tables as they are lent: every line unused, and 0 for every vertex.
-pub record Blank (kinds heights parents : List ℕ) : Type 0 where
-  pub kinds_blank : kinds ≡ replicate 2048 unused
-  pub heights_blank : heights ≡ replicate 512 0
-  pub parents_blank : parents ≡ replicate 512 0
 
 -- Every vertex is found.
 unfoldable pub everyone : ℕ → List ℕ → Bool

@@ -5,7 +5,7 @@ use Rattle.laws.specs.Counting.{many}
 use Rattle.laws.specs.Lists.{filled}
 use Rattle.network.specs.Network.{Network, network}
 use Rattle.network.specs.Numbers.{done, Checked, Untouched, pair}
-use Rattle.network.specs.declared.Answer.{Answer}
+use Rattle.network.specs.Numbers.{Answer}
 use Rattle.network.specs.Marks.{back}
 use Rattle.search.specs.Machine.{finished}
 

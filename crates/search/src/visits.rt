@@ -1,42 +1,35 @@
 // The walk: from a vertex up each line that is unused when its turn comes, and back.
-ghost use Rattle.std.specs.Prelude.{◌≡◌, ℕ, ◌+◌, ◌*◌, ◌≤◌, ◌<◌, length, get_or};
+ghost use Rattle.std.specs.Prelude.{◌≡◌, ◌+◌, ◌<◌, length, get_or};
 ghost use Rattle.laws.specs.Chains.{Chained};
 ghost use Rattle.laws.specs.Lists.{at};
 ghost use Rattle.network.specs.Network.{network};
-ghost use Rattle.search.specs.Machine.{state};
-ghost use Rattle.search.specs.Inside.{partner, Halved, Enterable, Entered, SomeCount, EachCount, Visitable, Visited};
+ghost use Rattle.search.specs.Inside.{state_of, partner, Halved, Enterable, Entered, SomeCount, EachCount, Visitable, Visited};
 
-use network::{Kind, wide};
+use crate::Finds;
+use network::Kind;
+use network::chains::Chains;
 
+// (The number of vertices is in `SomeCount`: in a cycle of calls a ghost value can't be picked.)
 // Visits v, which is found: goes along each line at v that is unused when its turn comes, the lowest number first, and returns.
-pub(crate) fn visit(
-    v: usize,
-    ends: &[u16],
-    heads: &[u16; 512],
-    nexts: &[u16; 4096],
-    kinds: &mut [u8; 2048],
-    found: &mut [u8; 512],
-    heights: &mut [u16; 512],
-    parents: &mut [u16; 512],
-)
-    requires chained { Chained 512 4096 (length ends.now) (at ends.now) heads.now nexts.now }
-    requires some_count { SomeCount (λ n. Visitable n ends.now (state v kinds.old found.old heights.old parents.old)) }
-    ensures { EachCount (λ n. Visitable n ends.now (state v kinds.old found.old heights.old parents.old))
+pub(crate) fn visit(v: usize, ends: &[u16], chains: &Chains<512, 4096>, finds: &mut Finds)
+    requires chained { Chained 512 4096 (length ends.now) (at ends.now) chains.now.heads chains.now.nexts }
+    requires some_count { SomeCount (λ n. Visitable n ends.now (state_of v finds.old)) }
+    ensures { EachCount (λ n. Visitable n ends.now (state_of v finds.old))
         (λ n. Visited (network n ends.now)
-        (state v kinds.old found.old heights.old parents.old)
-        (state v kinds.new found.new heights.new parents.new)) }
+        (state_of v finds.old)
+        (state_of v finds.new)) }
 {
-    let mut h = wide(heads[v]);
+    let mut h = chains.heads[v] as usize;
     while h < ends.len() {
-        let after = wide(nexts[h]);
+        let after = chains.nexts[h] as usize;
         let k = h / 2;
-        if kinds[k] == Kind::UNUSED {
+        if finds.kinds[k] == Kind::UNUSED {
             let w = far(ends, h);
-            if found[w] == 0 {
-                enter(v, w, k, kinds, found, heights, parents);
-                visit(w, ends, heads, nexts, kinds, found, heights, parents);
+            if finds.found[w] == 0 {
+                enter(v, w, k, finds);
+                visit(w, ends, chains, finds);
             } else {
-                kinds[k] = Kind::BACK;
+                finds.kinds[k] = Kind::BACK;
             }
         }
         h = after;
@@ -46,31 +39,23 @@ pub(crate) fn visit(
 // The end at the other half of the line.
 fn far(ends: &[u16], h: usize) -> usize
     requires { Halved h ends.now }
-    ensures { (result ≡ get_or ends.now (partner h) 0) × (result < 65536) }
+    ensures { result ≡ get_or ends.now (partner h) 0 }
 {
     if h % 2 == 0 {
-        wide(ends[h + 1])
+        ends[h + 1] as usize
     } else {
-        wide(ends[h - 1])
+        ends[h - 1] as usize
     }
 }
 
 // Goes up line k from v to w, which is new.
-fn enter(
-    v: usize,
-    w: usize,
-    k: usize,
-    kinds: &mut [u8; 2048],
-    found: &mut [u8; 512],
-    heights: &mut [u16; 512],
-    parents: &mut [u16; 512],
-)
-    requires { Enterable v w k kinds.old found.old heights.old parents.old }
-    ensures { Entered v w k kinds.old found.old heights.old parents.old
-        kinds.new found.new heights.new parents.new }
+fn enter(v: usize, w: usize, k: usize, finds: &mut Finds)
+    requires { Enterable v w k finds.old.kinds finds.old.found finds.old.heights finds.old.parents }
+    ensures { Entered v w k finds.old.kinds finds.old.found finds.old.heights finds.old.parents
+        finds.new.kinds finds.new.found finds.new.heights finds.new.parents }
 {
-    kinds[k] = Kind::TREE;
-    found[w] = 1;
-    heights[w] = heights[v] + 1;
-    parents[w] = k as u16;
+    finds.kinds[k] = Kind::TREE;
+    finds.found[w] = 1;
+    finds.heights[w] = finds.heights[v] + 1;
+    finds.parents[w] = k as u16;
 }

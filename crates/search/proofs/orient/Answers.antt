@@ -1,7 +1,9 @@
 -- `orient` writes what the search found, once nothing speaks against it.
-use mathlib.Core.Path.{sym}
+use mathlib.Core.Path.{refl}
 use native.Mathlib.Omega.{arith}
-use Rattle.search.proofs.Calls.{orient_2, orient_kinds, orient_heights, orient_lines, orient_vertices, orient_odd, orient_few_kinds, orient_few_heights, orient_refused, orient_fits, orient_done}
+use Rattle.laws.proofs.Passing.{passed_on}
+use Rattle.network.proofs.Refusing.{refusal_some, refusing_plain}
+use Rattle.search.proofs.Calls.{orient_2, explore_faulted, faulted_few, orient_lines, orient_vertices, orient_odd, orient_few_kinds, orient_few_heights, orient_refused, orient_fits, orient_done}
 use Rattle.search.proofs.orient.Goals as goal
 
 pub returns-then-is_oversize : goal.returns-then-is_oversize
@@ -16,23 +18,20 @@ returns-then-kinds-lines c = search orient_few_kinds
 pub returns-then-heights-vertices : goal.returns-then-heights-vertices
 returns-then-heights-vertices c = search orient_few_heights
 
-pub returns-then-number-ne0 : goal.returns-then-number-ne0
-returns-then-number-ne0 c = search orient_refused
+pub returns-in_err-finds : goal.returns-in_err-finds
+returns-in_err-finds c =
+    let few = faulted_few _ _ _ (explore_faulted _ _ _ _ _ _ c.in_err-finds.ensures) in
+    rw (passed_on c.from_residual.result c.from_residual.ensures.1)
+    (orient_refused _ _ _ _ _ c.is_oversize.ensures c.if-is_oversize.false _ c.is_odd.ensures c.if-is_odd.false c.if-kinds-lines.false c.if-heights-vertices.false _ _ _ _ c.in_err-finds.ensures (refusal_some _) _ (refusing_plain _ few))
 
-pub slice_bounds-bytes-end : goal.slice_bounds-bytes-end
-slice_bounds-bytes-end c = sym (orient_kinds _ _ _ _ _ _ c.explore-number.ensures c.if-number-ne0.false)
+pub lay-requires : goal.lay-requires
+lay-requires c = (orient_lines _ _ _ _ _ _ c.in_ok-finds.ensures refl, omega arith)
 
-pub bytes-requires : goal.bytes-requires
-bytes-requires c = (search orient_lines, omega arith)
+pub lay-requires-2 : goal.lay-requires-2
+lay-requires-2 c = (orient_vertices _ _ _ _ _ _ c.in_ok-finds.ensures refl, omega arith)
 
-pub slice_bounds-numbers-end : goal.slice_bounds-numbers-end
-slice_bounds-numbers-end c = sym (orient_heights _ _ _ _ _ _ c.explore-number.ensures c.if-number-ne0.false)
-
-pub numbers-requires : goal.numbers-requires
-numbers-requires c = (search orient_vertices, omega arith)
-
-pub overflow_sub-lines : goal.overflow_sub-lines
-overflow_sub-lines c = search orient_fits
+pub overflow_sub-result : goal.overflow_sub-result
+overflow_sub-result c = orient_fits _ _ _ _ _ _ c.in_ok-finds.ensures refl
 
 pub returns : goal.returns
-returns c = search orient_done
+returns c = orient_done _ _ _ _ _ c.is_oversize.ensures c.if-is_oversize.false _ c.is_odd.ensures c.if-is_odd.false c.if-kinds-lines.false c.if-heights-vertices.false _ _ _ _ c.in_ok-finds.ensures refl _ _ _ refl c.lay.ensures c.lay-2.ensures
