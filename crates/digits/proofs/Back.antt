@@ -76,7 +76,7 @@ digits_are (suc n) x i h =
     (λ k. rw (get_or-append l (digit (x % 16) ∷ []) 0 i (omega arith)) (digits_are n (x / 16) i k))
     (λ k. rw (get_or_at l (digit (x % 16)) [] 0 i (omega arith)) (is_digit_yes _ (x % 16) (omega arith) refl))
 
-number_last : (a b : ℕ) (l : List ℕ) → number_on a (l ++ (b ∷ [])) ≡ 16 * number_on a l + value b
+pub number_last : (a b : ℕ) (l : List ℕ) → number_on a (l ++ (b ∷ [])) ≡ 16 * number_on a l + value b
 unfolding number_on
 number_last a b [] = refl
 number_last a b (c ∷ l) = number_last (16 * a + value c) b l

@@ -1,28 +1,31 @@
 -- What the functions on digits come to: a byte's digit by its range, four digits read from a place, two or four written to it.
 use mathlib.Core.Bool.{Bool, true, false}
-use mathlib.Core.List.{List, [], ◌∷◌}
-use mathlib.Core.Path.{◌≡◌, refl, sym, ◌∙◌, ap}
-use Prim.Native.Nat.{ℕ, suc, ◌+◌, ◌-◌, ◌*◌, ◌/◌, ◌%◌, ◌≤◌, ◌<◌}
-use native.Mathlib.Nat.{add-zero}
+use mathlib.Core.List.{List, [], ◌∷◌, ◌++◌}
+use mathlib.Core.Path.{◌≡◌, refl, sym, ◌∙◌, ap, subst}
+use Prim.Native.Nat.{ℕ, zero, suc, ◌+◌, ◌-◌, ◌*◌, ◌/◌, ◌%◌, ◌^◌, ◌≤◌, ◌<◌}
+use native.Mathlib.Nat.{add-zero, pow-zero, pow-suc}
 use native.Mathlib.Omega.{arith}
-use lib.Dec.{leb}
-use lib.ListN.{get_or, set, length, drop, length-set, length-drop}
-use lib.Seq.{get_or-drop, sets}
-use borrow.Author.Tests.{ne_eqb, le-leb, lt-leb}
-use Rattle.laws.specs.Tests.{all}
-use Rattle.laws.proofs.Cases.{cases, bool, true_false, lt_or}
-use Rattle.laws.proofs.Tests.{both_yes, any_no, all_of}
-use Rattle.digits.specs.Digits.{digit, is_digit, value, digits, number_on, word}
+use lib.ListN.{get_or, set, length, take, drop, length-set, length-drop}
+use lib.Seq.{get_or-take, get_or-drop, length-take-le, take-suc, sets}
+use mir.Syntax.{w16}
+use mir.Val.{Fits}
+use borrow.Author.Tests.{ne_eqb}
+use Rattle.std.proofs.Common.{IsTrue, ◌↔◌, All, slice_range}
+use Rattle.std.proofs.lemmas.List.{set_comm}
+use Rattle.std.proofs.lemmas.List.Elements.{All-get_or, All-from_get_or}
+use Rattle.laws.proofs.Cases.{cases, lt_or}
+use Rattle.laws.proofs.Tests.{same_test, any_no, all_of, all_yes}
+use Rattle.digits.specs.Digits.{digit, is_digit, value, digits, number_on, number, word}
 use Rattle.digits.specs.Inside.{is_word, Word, Number}
-use Rattle.digits.proofs.Back.{digit_low, digit_high, value_is, is_digit_yes, is_digit_of}
+use Rattle.digits.proofs.Back.{digit_low, digit_high, value_is, is_digit_yes, is_digit_of, length_digits, number_last}
 
 -- One byte
 
 pub digit_below : (d : ℕ) → d < 10 → 48 + d ≡ digit d
 digit_below d h = sym (digit_low d h)
 
-pub digit_above : (d : ℕ) → 10 ≤ d → 87 + d ≡ digit d
-digit_above d h = sym (digit_high d h)
+pub digit_above : (d : ℕ) → 10 ≤ d → 97 + (d - 10) ≡ digit d
+digit_above d h = omega (arith, digit_high d h)
 
 -- where the digits' bytes lie
 pub record Ranged (b : ℕ) : Type 0 where
@@ -53,11 +56,11 @@ module _ (b : ℕ) where
   pub between_digits : 57 < b → b < 97 → false ≡ is_digit b
   between_digits h k = not_ranged b (λ r. omega (arith, r.low k))
 
-  pub letter : 97 ≤ b → leb b 102 ≡ is_digit b
-  letter h =
-      cases (lt_or 102 b)
-      (λ k. lt-leb b 102 k ∙ not_ranged b (λ r. omega (arith, r.upto)))
-      (λ k. le-leb b 102 k ∙ sym (is_digit_yes b (b - 87) (omega arith) (digit_high (b - 87) (omega arith) ∙ omega arith)))
+  pub letter : 97 ≤ b → b ≤ 102 → true ≡ is_digit b
+  letter h k = sym (is_digit_yes b (b - 87) (omega arith) (digit_high (b - 87) (omega arith) ∙ omega arith))
+
+  pub above_digits : 102 < b → false ≡ is_digit b
+  above_digits h = not_ranged b (λ r. omega (arith, r.upto))
 
   pub decimal_value : is_digit b ≡ true → b < 97 → (b - 48 ≡ value b) × (b - 48 < 16)
   decimal_value t h =
@@ -65,108 +68,120 @@ module _ (b : ℕ) where
       let l = r.low h in
       (sym (value_is b (b - 48) (omega arith) (digit_low (b - 48) (omega arith) ∙ omega arith)), omega arith)
 
-  pub letter_value : is_digit b ≡ true → 97 ≤ b → (b - 87 ≡ value b) × (b - 87 < 16)
+  pub letter_value : is_digit b ≡ true → 97 ≤ b → (b - 97 + 10 ≡ value b) × (b - 97 + 10 < 16)
   letter_value t h =
       let r = digit_ranged b t in
-      (sym (value_is b (b - 87) (omega arith) (digit_high (b - 87) (omega arith) ∙ omega arith)), omega arith)
+      (omega (arith, value_is b (b - 87) (omega arith) (digit_high (b - 87) (omega arith) ∙ omega arith)), omega arith)
+
+-- which bytes are digits, and which are not
+pub ruleset ranges = (below_digits, decimal, between_digits, letter, above_digits)
 
 -- Whether four digits stand at a place
 
-all_no : (p : ℕ → Bool) (n i : ℕ) → i < n → p i ≡ false → all p n ≡ false
-all_no p n i h e = cases (bool (all p n)) (λ t. true_false (all_of p n t i h) e) (λ f. f)
-
-module _ (text : List ℕ) (at : ℕ) where
-  word_no : (i : ℕ) → i < 4 → is_digit (get_or text (at + i) 0) ≡ false → false ≡ is_word text at
-  unfolding is_word
-  word_no i h e = sym (all_no _ 4 i h e)
-
-  pub word_no_first : (r : Bool) → r ≡ is_digit (get_or text at 0) → r ≡ false → false ≡ is_word text at
-  word_no_first r e f = word_no 0 (omega arith) (rw (add-zero at) (sym e ∙ f))
-
-  pub word_no_second : (r : Bool) → r ≡ is_digit (get_or text (at + 1) 0) → r ≡ false → false ≡ is_word text at
-  word_no_second r e f = word_no 1 (omega arith) (sym e ∙ f)
-
-  pub word_no_third : (r : Bool) → r ≡ is_digit (get_or text (at + 2) 0) → r ≡ false → false ≡ is_word text at
-  word_no_third r e f = word_no 2 (omega arith) (sym e ∙ f)
-
-  pub word_fourth : (a b c d : Bool) → a ≡ is_digit (get_or text at 0) → b ≡ is_digit (get_or text (at + 1) 0) → c ≡ is_digit (get_or text (at + 2) 0)
-      → d ≡ is_digit (get_or text (at + 3) 0) → a ≡ true → b ≡ true → c ≡ true → d ≡ is_word text at
-  unfolding is_word all
-  word_fourth a b c d p q r s x y z =
-      cases (bool d)
-      (λ t. t ∙ sym (both_yes (sym s ∙ t) (both_yes (sym r ∙ z) (both_yes (sym q ∙ y) (both_yes (rw (add-zero at) (sym p ∙ x)) refl)))))
-      (λ f. f ∙ word_no 3 (omega arith) (sym s ∙ f))
+pub word_all : (text : List ℕ) (at : ℕ) (r : Bool) → at + 4 ≤ length text → IsTrue r ↔ All (λ b. IsTrue (is_digit b)) (slice_range text at (at + 4)) → r ≡ is_word text at
+unfolding is_word
+word_all text at r h e =
+    let l = take 4 (drop at text) in
+    let used : slice_range text at (at + 4) ≡ l = let four : at + 4 - at ≡ 4 = omega arith in ap (λ n. take n (drop at text)) four in
+    let long : length l ≡ 4 = length-take-le 4 (drop at text) (omega (arith, length-drop at text)) in
+    let there = λ (j : ℕ) (k : j < 4). get_or-take 4 (drop at text) j 0 k ∙ get_or-drop at text j 0 in
+    let P : ℕ → Type 0 = λ b. IsTrue (is_digit b) in
+    same_test r _
+    (λ t. all_yes _ 4 (λ j k. rw (there j k) at (All-get_or P l j 0 (omega arith) (subst (All P) used (e.0 t)))))
+    (λ t. e.1 (subst (All P) (sym used) (All-from_get_or P l 0 (λ j k. let k' : j < 4 = omega arith in rw (there j k') (all_of _ 4 t j k')))))
 
 -- The number in four digits
 
-word_four : (t : List ℕ) → 4 ≤ length t
-    → word t ≡ 16 * (16 * (16 * value (get_or t 0 0) + value (get_or t 1 0)) + value (get_or t 2 0)) + value (get_or t 3 0)
-unfolding word number_on
-word_four [] h = absurd (omega arith)
-word_four (a ∷ []) h = absurd (omega arith)
-word_four (a ∷ b ∷ []) h = absurd (omega arith)
-word_four (a ∷ b ∷ c ∷ []) h = absurd (omega arith)
-word_four (a ∷ b ∷ c ∷ d ∷ t) h = omega arith
+sixteens : (k : ℕ) → k < 4 → 16 ^ suc k ≤ 65536
+sixteens zero h = omega arith
+sixteens (suc zero) h = omega arith
+sixteens (suc (suc zero)) h = omega arith
+sixteens (suc (suc (suc zero))) h = omega arith
+sixteens (suc (suc (suc (suc k)))) h = absurd (omega arith)
+
+-- the number in the first k of them
+pub record Reading (text : List ℕ) (at k x : ℕ) : Type 0 where
+  pub upto : k ≤ 4
+  pub said : x ≡ number (take k (drop at text))
+  pub small : x < 16 ^ k
 
 module _ (text : List ℕ) (at : ℕ) (w : Word text at) where
-  word_digit : (i : ℕ) → i < 4 → is_digit (get_or text (at + i) 0) ≡ true
-  unfolding is_word
-  word_digit i h = all_of _ 4 w.digits i h
+  pub reading_none : Reading text at 0 0
+  unfolding number_on
+  reading_none = record { upto = omega arith; said = refl; small = omega (arith, pow-zero 16) }
 
-  pub digit_first : is_digit (get_or text at 0) ≡ true
-  digit_first = rw (add-zero at) at (word_digit 0 (omega arith))
+  module _ (k x : ℕ) (r : Reading text at k x) where
+    module _ (h : k < 4) where
+      pub word_digit : is_digit (get_or text (at + k) 0) ≡ true
+      unfolding is_word
+      word_digit = all_of _ 4 w.digits k h
 
-  pub digit_second : is_digit (get_or text (at + 1) 0) ≡ true
-  digit_second = word_digit 1 (omega arith)
+      few : 16 * x + 15 < 65536
+      few = omega (arith, r.small, pow-suc 16 k, sixteens k h)
 
-  pub digit_third : is_digit (get_or text (at + 2) 0) ≡ true
-  digit_third = word_digit 2 (omega arith)
+      pub shifted_fits : Fits w16 (16 * x)
+      shifted_fits = record { fits = omega (arith, few) }
 
-  pub digit_fourth : is_digit (get_or text (at + 3) 0) ≡ true
-  digit_fourth = word_digit 3 (omega arith)
+      module _ (v : ℕ) (is_v : (v ≡ value (get_or text (at + k) 0)) × (v < 16)) where
+        pub more_fits : Fits w16 (16 * x + v)
+        more_fits = record { fits = omega (arith, few, is_v.1) }
 
-  pub word_is : (a b c d : ℕ) → (a ≡ value (get_or text at 0)) × (a < 16) → (b ≡ value (get_or text (at + 1) 0)) × (b < 16)
-      → (c ≡ value (get_or text (at + 2) 0)) × (c < 16) → (d ≡ value (get_or text (at + 3) 0)) × (d < 16)
-      → Number text at (16 * (16 * (16 * a + b) + c) + d)
-  word_is a b c d p q r s =
-      let first : get_or (drop at text) 0 0 ≡ get_or text at 0 = get_or-drop at text 0 0 ∙ ap (λ k. get_or text k 0) (add-zero at) in
-      let four = word_four (drop at text) (omega (arith, length-drop at text, w.within)) in
-      let four' = rw (first, get_or-drop at text 1 0, get_or-drop at text 2 0, get_or-drop at text 3 0) at four in
-      record { said = omega (arith, four'); small = omega arith }
+        pub reading_more : Reading text at (k + 1) (16 * x + v)
+        reading_more =
+            let l = drop at text in
+            let one : k + 1 ≡ suc k = omega arith in
+            rw one
+            (record {
+              upto = omega arith;
+              said =
+                  omega (
+                    arith,
+                    r.said,
+                    is_v.0,
+                    ap number (take-suc l k 0 (omega (arith, length-drop at text, w.within))),
+                    number_last 0 (get_or l k 0) (take k l),
+                    ap value (get_or-drop at text k 0),
+                  );
+              small = omega (arith, r.small, is_v.1, pow-suc 16 k);
+            })
 
--- Digits written
+    pub word_is : 4 ≤ k → Number text at x
+    unfolding word
+    word_is h =
+        let four : k ≡ 4 = omega (arith, r.upto) in
+        record { said = rw four at r.said; small = (let s = rw four at r.small in omega (arith, s)) }
 
-pub pair_room : (l : List ℕ) (at a : ℕ) → at + 2 ≤ length l → at + 1 < length (set l at a)
-pair_room l at a h = omega (arith, length-set l at a)
+-- Digits written, the last one first
 
-digits_two : (x : ℕ) → digits 2 x ≡ digit (x / 16 % 16) ∷ digit (x % 16) ∷ []
+-- what is stored behind a list, and then the list before it
+sets_last : (l : List ℕ) (i : ℕ) (p : List ℕ) (b : ℕ) → sets (set l (i + length p) b) i p ≡ sets l i (p ++ (b ∷ []))
+sets_last l i [] b = rw (add-zero i)
+sets_last l i (a ∷ p) b =
+    let on : i + suc (length p) ≡ suc i + length p = omega arith in
+    rw (on, set_comm l (suc i + length p) i b a (omega arith)) (sets_last (set l i a) (suc i) p b)
+
+last_digit : (k j x : ℕ) → k ≡ suc j → digits k x ≡ digits j (x / 16) ++ (digit (x % 16) ∷ [])
 unfolding digits
-digits_two x = refl
+last_digit k j x e = rw e
 
-pub pair_put : (l : List ℕ) (at x a b : ℕ) → a ≡ digit (x / 16 % 16) → b ≡ digit (x % 16) → set (set l at a) (at + 1) b ≡ sets l at (digits 2 x)
-pair_put l at x a b p q =
-    let one : at + 1 ≡ suc at = omega arith in
-    rw (digits_two x, one, p, q)
+-- k digits are still to be written, and with them the whole number will stand there
+pub record Writing (old : List ℕ) (at places x k left : ℕ) (text : List ℕ) : Type 0 where
+  pub upto : k ≤ places
+  pub long : length text ≡ length old
+  pub rest : sets text at (digits k left) ≡ sets old at (digits places x)
 
-digits_four : (x : ℕ) → digits 4 x ≡ digit (x / 16 / 16 / 16 % 16) ∷ digit (x / 16 / 16 % 16) ∷ digit (x / 16 % 16) ∷ digit (x % 16) ∷ []
-unfolding digits
-digits_four x = refl
+module _ (old : List ℕ) (at places x k left : ℕ) (text : List ℕ) (w : Writing old at places x k left text) where
+  pub writing_more : 0 < k → (d : ℕ) → d ≡ digit (left % 16) → Writing old at places x (k - 1) (left / 16) (set text (at + (k - 1)) d)
+  writing_more h d e =
+      let p = digits (k - 1) (left / 16) in
+      let here : at + length p ≡ at + (k - 1) = omega (arith, length_digits (k - 1) (left / 16)) in
+      let last = last_digit k (k - 1) left (omega arith) in
+      record {
+        upto = omega (arith, w.upto);
+        long = length-set text (at + (k - 1)) d ∙ w.long;
+        rest = rw (e, ← here) (sets_last text at p (digit (left % 16))) ∙ (rw last at w.rest);
+      }
 
-module _ (l : List ℕ) (at : ℕ) (h : at + 4 ≤ length l) where
-  pub room_second : (a : ℕ) → at + 1 < length (set l at a)
-  room_second a = pair_room l at a (omega arith)
-
-  pub room_third : (a b : ℕ) → at + 2 < length (set (set l at a) (at + 1) b)
-  room_third a b = omega (arith, length-set l at a, length-set (set l at a) (at + 1) b)
-
-  pub room_fourth : (a b c : ℕ) → at + 3 < length (set (set (set l at a) (at + 1) b) (at + 2) c)
-  room_fourth a b c =
-      omega (arith, length-set l at a, length-set (set l at a) (at + 1) b, length-set (set (set l at a) (at + 1) b) (at + 2) c)
-
-pub word_put : (l : List ℕ) (at x a b c d : ℕ) → a ≡ digit (x / 16 / 16 / 16 % 16) → b ≡ digit (x / 16 / 16 % 16) → c ≡ digit (x / 16 % 16)
-    → d ≡ digit (x % 16) → set (set (set (set l at a) (at + 1) b) (at + 2) c) (at + 3) d ≡ sets l at (digits 4 x)
-word_put l at x a b c d p q r s =
-    let one : at + 1 ≡ suc at = omega arith in
-    let two : at + 2 ≡ suc (suc at) = omega arith in
-    let three : at + 3 ≡ suc (suc (suc at)) = omega arith in
-    rw (digits_four x, one, two, three, p, q, r, s)
+  pub writing_all : k ≤ 0 → text ≡ sets old at (digits places x)
+  unfolding digits
+  writing_all h = let none : k ≡ 0 = omega arith in rw none at w.rest

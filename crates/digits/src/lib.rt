@@ -1,4 +1,4 @@
-// Small hexadecimal digits, one at a time, two at a time and four at a time.
+// Small hexadecimal digits: one at a time, four read together, and any number of them written.
 #![tactic(auto)]
 
 ghost use Rattle.std.specs.Prelude.{true, ◌≡◌, ◌+◌, ◌≤◌, ◌<◌, length};
@@ -7,19 +7,11 @@ ghost use Rattle.digits.specs.Digits.{digit, is_digit, value, digits};
 ghost use Rattle.digits.specs.Inside.{is_word, Word, Number};
 
 // Whether a byte is a digit.
+#[tactic(auto, using(crate::proofs::Words::ranges))]
 fn is_digit(byte: u8) -> bool
     ensures { result ≡ is_digit byte }
 {
-    if byte < 48 {
-        return false;
-    }
-    if byte <= 57 {
-        return true;
-    }
-    if byte < 97 {
-        return false;
-    }
-    byte <= 102
+    matches!(byte, b'0'..=b'9' | b'a'..=b'f')
 }
 
 // Which digit a byte is.
@@ -27,10 +19,10 @@ fn value(byte: u8) -> u16
     requires { is_digit byte ≡ true }
     ensures { (result ≡ value byte) × (result < 16) }
 {
-    if byte < 97 {
-        return (byte - 48) as u16;
+    if byte < b'a' {
+        return (byte - b'0') as u16;
     }
-    (byte - 87) as u16
+    (byte - b'a') as u16 + 10
 }
 
 // The byte of a digit.
@@ -39,9 +31,9 @@ fn digit(d: u16) -> u8
     ensures { result ≡ digit d }
 {
     if d < 10 {
-        return 48 + d as u8;
+        return b'0' + d as u8;
     }
-    87 + d as u8
+    b'a' + (d - 10) as u8
 }
 
 // Whether four digits stand at a place.
@@ -49,16 +41,7 @@ pub fn is_word(text: &[u8], at: usize) -> bool
     requires { at + 4 ≤ length text.now }
     ensures { result ≡ is_word text.now at }
 {
-    if !is_digit(text[at]) {
-        return false;
-    }
-    if !is_digit(text[at + 1]) {
-        return false;
-    }
-    if !is_digit(text[at + 2]) {
-        return false;
-    }
-    is_digit(text[at + 3])
+    text[at..at + 4].iter().all(|byte| is_digit(*byte))
 }
 
 // The number in the four digits at a place.
@@ -66,33 +49,21 @@ pub fn word_at(text: &[u8], at: usize) -> u16
     requires { Word text.now at }
     ensures { Number text.now at result }
 {
-    let a = value(text[at]);
-    let b = value(text[at + 1]);
-    let c = value(text[at + 2]);
-    let d = value(text[at + 3]);
-    16 * (16 * (16 * a + b) + c) + d
+    let mut number = 0;
+    for k in 0..4 {
+        number = 16 * number + value(text[at + k]);
+    }
+    number
 }
 
-// Writes a number in four digits from a place on.
-pub fn put_word(text: &mut [u8], at: usize, x: u16)
-    requires { at + 4 ≤ length text.old }
-    ensures { text.new ≡ sets text.old at (digits 4 x) }
+// Writes a number in so many digits from a place on: the last digit first, since it is what is left of the number.
+pub fn put_number(text: &mut [u8], at: usize, places: usize, x: u16)
+    requires { at + places ≤ length text.old }
+    ensures { text.new ≡ sets text.old at (digits places x) }
 {
-    let c = x / 16;
-    let b = c / 16;
-    let a = b / 16;
-    text[at] = digit(a % 16);
-    text[at + 1] = digit(b % 16);
-    text[at + 2] = digit(c % 16);
-    text[at + 3] = digit(x % 16);
-}
-
-// Writes a number in two digits from a place on.
-pub fn put_pair(text: &mut [u8], at: usize, x: u16)
-    requires { at + 2 ≤ length text.old }
-    ensures { text.new ≡ sets text.old at (digits 2 x) }
-{
-    let high = x / 16;
-    text[at] = digit(high % 16);
-    text[at + 1] = digit(x % 16);
+    let mut rest = x;
+    for k in (0..places).rev() {
+        text[at + k] = digit(rest % 16);
+        rest /= 16;
+    }
 }

@@ -13,7 +13,7 @@ use Rattle.laws.proofs.Cases.{cases, bool, true_false}
 use Rattle.laws.proofs.Checks.{check_once}
 use Rattle.laws.proofs.Tests.{either_no, either_neither}
 use Rattle.network.specs.Numbers.{done, oversize, odd, astray, Formed, Checked, Untouched}
-use Rattle.network.specs.declared.Answer.{Answer}
+use Rattle.network.specs.Numbers.{Answer}
 use Rattle.text.specs.Text.{room, text_of, vertices_in, lines_in, ends_in, has_form}
 use Rattle.text.specs.Calls.{Read, Write}
 

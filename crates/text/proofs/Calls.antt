@@ -9,7 +9,7 @@ use lib.ListN.{get_or, length, take}
 use Rattle.laws.specs.Lists.{filled}
 use Rattle.laws.proofs.Checks.{check_once}
 use Rattle.network.specs.Numbers.{done, oversize}
-use Rattle.network.specs.declared.Answer.{Answer}
+use Rattle.network.specs.Numbers.{Answer}
 use Rattle.network.proofs.Checks.{sized, even, none_astray}
 use Rattle.network.proofs.Sifting.{checked_once, untouched_once}
 use Rattle.text.specs.Text.{room, text_of, vertices_in, lines_in, ends_in}

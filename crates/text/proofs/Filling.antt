@@ -8,17 +8,17 @@ use lib.ListN.{get_or, set, length, take, drop, length-append, length-set, lengt
 use lib.Seq.{sets, sets-eq, length-sets, length-take-le, take_at, take_all, take-suc, drop-append-add, drop-drop}
 use Rattle.laws.specs.Lists.{filled}
 use Rattle.digits.specs.Digits.{digits, word}
-use Rattle.text.specs.Text.{feed, frame, frames, text_of, room, numbers, ends_in}
+use Rattle.text.specs.Text.{feed, frame, frames, text_of, room, numbers}
 use Rattle.digits.specs.Inside.{Word, Number}
 use Rattle.text.specs.Inside.{Parsable, Roomy, Writable, after_first}
 use Rattle.digits.proofs.Back.{length_digits}
-use Rattle.text.proofs.TextBack.{length_text, length_ends_in}
+use Rattle.text.proofs.TextBack.{length_text}
 use Rattle.text.proofs.Places.{form_word}
 use Rattle.text.proofs.FramesBack.{length_frame, frames_two, length_frames, length_numbers}
 
 -- Stores
 
-sets_append : (l : List ℕ) (i : ℕ) (vs ws : List ℕ) → sets l i (vs ++ ws) ≡ sets (sets l i vs) (i + length vs) ws
+pub sets_append : (l : List ℕ) (i : ℕ) (vs ws : List ℕ) → sets l i (vs ++ ws) ≡ sets (sets l i vs) (i + length vs) ws
 sets_append l i [] ws = rw (add-zero i)
 sets_append l i (v ∷ vs) ws =
     let on : i + suc (length vs) ≡ suc i + length vs = omega arith in
@@ -83,12 +83,6 @@ module _ (text : List ℕ) (lines : ℕ) (ends₀ : List ℕ) (p : Parsable text
       pub second_word : Word text (9 * (k + 1) + 4)
       second_word = form_word text p.form (9 * (k + 1) + 4) (omega (arith, reaches)) (omega arith)
 
-      pub first_in : 2 * k < length ends
-      first_in = omega (arith, t.long, p.roomy)
-
-      pub second_in : (a : ℕ) → 2 * k + 1 < length (set ends (2 * k) a)
-      second_in a = omega (arith, length-set ends (2 * k) a, t.long, p.roomy)
-
       pub taken_more : (a b : ℕ) → Number text (9 * (k + 1)) a → Number text (9 * (k + 1) + 4) b
           → Taken text lines ends₀ (k + 1) (set (set ends (2 * k) a) (2 * k + 1) b)
       taken_more a b is_a is_b =
@@ -107,12 +101,6 @@ module _ (text : List ℕ) (lines : ℕ) (ends₀ : List ℕ) (p : Parsable text
             long = omega (arith, length-set (set ends (2 * k) a) (2 * k + 1) b, length-set ends (2 * k) a, t.long);
           }
 
-    pub taken_all : lines ≤ k → ends ≡ filled (2 * lines) (ends_in text) ends₀
-    taken_all h =
-        let is_k : k ≡ lines = omega (arith, t.upto) in
-        let used : take (2 * lines) (ends_in text) ≡ ends_in text = take_all (2 * lines) (ends_in text) (omega (arith, length_ends_in text, p.lines_are)) in
-        rw (t.list, is_k, used, p.lines_are)
-
 -- One frame put
 
 pub frame_put : (l m r : List ℕ) (at a b : ℕ) → m ≡ sets l at (digits 4 a) → r ≡ sets m (at + 4) (digits 4 b) → set r (at + 8) 10 ≡ sets l at (frame a b)
@@ -123,9 +111,6 @@ frame_put l m r at a b e f =
     sym
     (sets_append l at (digits 4 a) (digits 4 b ++ (feed ∷ []))
     ∙ rw (first, ← e, sets_append m (at + 4) (digits 4 b) (feed ∷ []), ← f, last))
-
-pub frame_put_long : (l m r : List ℕ) (at a b : ℕ) → m ≡ sets l at (digits 4 a) → r ≡ sets m (at + 4) (digits 4 b) → length (set r (at + 8) 10) ≡ length l
-frame_put_long l m r at a b e f = rw (frame_put l m r at a b e f) (length-sets l at (frame a b))
 
 -- The frames of lines put, line by line
 
@@ -146,9 +131,6 @@ module _ (ends text₀ : List ℕ) (r : Roomy ends text₀) where
       }
 
   module _ (k : ℕ) (text : List ℕ) (t : Put ends text₀ k text) where
-    pub put_room : k < length ends / 2 → 9 * (k + 1) + 9 ≤ length text
-    put_room h = omega (arith, t.long, r.roomy)
-
     pub put_more : (text' : List ℕ) → k < length ends / 2 → text' ≡ sets text (9 * (k + 1)) (frame (get_or ends (2 * k) 0) (get_or ends (2 * k + 1) 0))
         → Put ends text₀ (k + 1) text'
     put_more text' h e =
@@ -169,15 +151,9 @@ module _ (ends text₀ : List ℕ) (r : Roomy ends text₀) where
           long = ap length e ∙ length-sets text (9 * (k + 1)) (frame a b) ∙ t.long;
         }
 
-    pub put_all : length ends / 2 ≤ k → text ≡ after_first ends (length ends / 2) text₀
-    put_all h = let is_k : k ≡ length ends / 2 = omega (arith, t.upto) in rw (t.list, is_k)
-
 -- A whole text put
 
 module _ (n : ℕ) (ends text₀ mid : List ℕ) (w : Writable n ends text₀) (is_mid : mid ≡ sets text₀ 0 (frame n (length ends / 2))) where
-  pub roomy_mid : Roomy ends mid
-  roomy_mid = record { even = w.fits.even; roomy = rw (ap length is_mid ∙ length-sets text₀ 0 (frame n (length ends / 2))) w.fits.roomy }
-
   pub text_put : (text : List ℕ) → text ≡ after_first ends (length ends / 2) mid → text ≡ filled (room (length ends / 2)) (text_of n ends) text₀
   text_put text e =
       let m = length ends / 2 in

@@ -1,12 +1,11 @@
 -- The form, frame by frame: a frame is right where its two words are digits and its last byte is a line feed, and all places are right where all frames are.
-use mathlib.Core.Bool.{Bool, true, false, not}
+use mathlib.Core.Bool.{Bool, true, false}
 use mathlib.Core.List.{List}
 use mathlib.Core.Path.{◌≡◌, sym, ◌∙◌}
 use Prim.Native.Nat.{ℕ, ◌+◌, ◌-◌, ◌*◌, ◌%◌, ◌≤◌, ◌<◌}
 use native.Mathlib.Omega.{arith}
 use lib.Dec.{eqb}
 use lib.ListN.{get_or, length}
-use borrow.Author.Tests.{not-false}
 use Rattle.laws.specs.Tests.{all}
 use Rattle.laws.proofs.Cases.{cases, bool, true_false, lt_or}
 use Rattle.laws.proofs.Tests.{all_of, all_yes}
@@ -60,18 +59,15 @@ module _ (text : List ℕ) (k : ℕ) where
       (λ l'. let at : 9 * k + i ≡ 9 * k + 4 + (i - 4) = omega arith in rw at (right_digit text (9 * k + 4 + (i - 4)) (omega arith) ∙ all_of _ 4 b (i - 4) (omega arith)))
       (λ l'. let at : i ≡ 8 = omega arith in rw at (right_feed text (9 * k + 8) (omega arith) ∙ c))))
 
-  pub frame_no_first : (r : Bool) → r ≡ is_word text (9 * k) → r ≡ false → false ≡ is_frame text k
-  frame_no_first r e f = contrary first_of (sym e ∙ f)
+  pub frame_no_first : is_word text (9 * k) ≡ false → false ≡ is_frame text k
+  frame_no_first f = contrary first_of f
 
-  pub frame_no_second : (r : Bool) → r ≡ is_word text (9 * k + 4) → r ≡ false → false ≡ is_frame text k
-  frame_no_second r e f = contrary second_of (sym e ∙ f)
+  pub frame_no_second : is_word text (9 * k + 4) ≡ false → false ≡ is_frame text k
+  frame_no_second f = contrary second_of f
 
-  pub frame_last : (a b : Bool) → a ≡ is_word text (9 * k) → b ≡ is_word text (9 * k + 4) → not a ≡ false → not b ≡ false
-      → eqb (get_or text (9 * k + 8) 0) 10 ≡ is_frame text k
-  frame_last a b p q s t =
-      cases (bool (eqb (get_or text (9 * k + 8) 0) 10))
-      (λ e. e ∙ sym (frame_yes (sym p ∙ not-false a s) (sym q ∙ not-false b t) e))
-      (λ e. e ∙ contrary feed_of e)
+  pub frame_last : is_word text (9 * k) ≡ true → is_word text (9 * k + 4) ≡ true → eqb (get_or text (9 * k + 8) 0) 10 ≡ is_frame text k
+  frame_last a b =
+      cases (bool (eqb (get_or text (9 * k + 8) 0) 10)) (λ e. e ∙ sym (frame_yes a b e)) (λ e. e ∙ contrary feed_of e)
 
 -- All frames
 
@@ -88,6 +84,9 @@ module _ (text : List ℕ) (lines : ℕ) (o : Opened text lines) where
         places = λ i h. let at : 9 * 0 + i ≡ i = omega arith in rw at at (frame_of text 0 o.first i (omega arith));
       }
 
+  pub rights_all : (k : ℕ) → Rights text lines k → lines < k → true ≡ all (well_placed text) (length text)
+  rights_all k s h = sym (all_yes (well_placed text) (length text) (λ i l. s.places i (omega (arith, o.long))))
+
   module _ (k : ℕ) (h : k ≤ lines) (r : Bool) (is : r ≡ is_frame text k) where
     pub rights_more : Rights text lines k → r ≡ true → Rights text lines (k + 1)
     rights_more s t =
@@ -98,14 +97,14 @@ module _ (text : List ℕ) (lines : ℕ) (o : Opened text lines) where
               (λ l'. let at : 9 * k + (i - 9 * k) ≡ i = omega arith in rw at at (frame_of text k (sym is ∙ t) (i - 9 * k) (omega arith)));
         }
 
+    pub rights_last : Rights text lines k → r ≡ true → lines ≤ k → true ≡ all (well_placed text) (length text)
+    rights_last s t l = rights_all (k + 1) (rights_more s t) (omega arith)
+
     pub rights_no : r ≡ false → false ≡ all (well_placed text) (length text)
     rights_no f =
         contrary
         (λ t. frame_by text k (λ i l. all_of (well_placed text) (length text) t (9 * k + i) (omega (arith, o.long))))
         (sym is ∙ f)
-
-  pub rights_all : (k : ℕ) → Rights text lines k → lines < k → true ≡ all (well_placed text) (length text)
-  rights_all k s h = sym (all_yes (well_placed text) (length text) (λ i l. s.places i (omega (arith, o.long))))
 
 -- The form
 
@@ -117,18 +116,15 @@ module _ (text : List ℕ) where
     pub form_no_first : first ≡ false → false ≡ has_form text
     form_no_first f = contrary (λ t. frame_by text 0 (λ i l. (form_of text t).places (9 * 0 + i) (omega arith))) (sym is_first ∙ f)
 
-    module _ (right_first : not first ≡ false) where
+    module _ (right_first : first ≡ true) where
       pub lines_word : Word text 4
-      lines_word = record { within = omega arith; digits = second_of text 0 (sym is_first ∙ not-false first right_first) }
+      lines_word = record { within = omega arith; digits = second_of text 0 (sym is_first ∙ right_first) }
 
       module _ (lines : ℕ) (is : Number text 4 lines) where
         pub form_no_room : (length text ≡ 9 * (lines + 1) → ⊥) → false ≡ has_form text
         form_no_room d = sym (form_no_length text (λ e. d (rw is.said e)))
 
         module _ (long : length text ≡ 9 * (lines + 1)) where
-          pub opened : Opened text lines
-          opened = record { long = long; few = is.small; first = sym is_first ∙ not-false first right_first }
-
           pub form_last : (r : Bool) → r ≡ all (well_placed text) (length text) → r ≡ has_form text
           form_last r e =
               let room_is : length text ≡ room (lines_in text) = rw is.said at long in

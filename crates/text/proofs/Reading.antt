@@ -1,20 +1,20 @@
 -- What `read` returns, one lemma for each place where it does, and what it asks of the functions that it calls.
-use mathlib.Core.Bool.{Bool, true, false, not}
+use mathlib.Core.Bool.{Bool, true, false}
 use mathlib.Core.List.{List}
-use mathlib.Core.Logic.{inl, inr}
+use mathlib.Core.Logic.{inr}
 use mathlib.Core.Path.{◌≡◌, sym, ◌∙◌, ap, subst}
-use Prim.Native.Nat.{ℕ, ◌*◌, ◌≤◌, ◌<◌}
+use Prim.Native.Nat.{ℕ, ◌*◌, ◌≤◌}
 use native.Mathlib.Omega.{arith}
 use lib.Dec.{ltb}
 use lib.ListN.{length, take, replicate, length-replicate}
 use lib.Seq.{take_all, length-take-le}
-use borrow.Author.Tests.{lt-ltb, le-ltb, not-true, not-false}
+use borrow.Author.Tests.{le-ltb}
 use Rattle.laws.specs.Checks.{Check}
 use Rattle.laws.specs.Lists.{filled}
 use Rattle.laws.proofs.Cases.{true_false}
 use Rattle.laws.proofs.Filling.{filled_long}
 use Rattle.network.specs.Numbers.{refused, done, oversize, Formed, Untouched}
-use Rattle.network.specs.declared.Answer.{Answer}
+use Rattle.network.specs.Numbers.{Answer}
 use Rattle.network.proofs.Checks.{sized}
 use Rattle.network.proofs.Sifting.{formed_map, untouched}
 use Rattle.search.specs.Inside.{Faulted}
@@ -27,12 +27,9 @@ use Rattle.text.proofs.Places.{form_word}
 use Rattle.text.proofs.Accepted.{take_filled, not_odd, checked_formed}
 
 module _ (text : List ℕ) (form : Bool) (is_form : form ≡ has_form text) where
-  pub read_1 : (ends : List ℕ) → not form ≡ true → (r : Answer) → r ≡ refused 1 → Read text ends r ends
-  read_1 ends t r e = inl (sym is_form ∙ not-true form t, untouched e)
-
-  module _ (formed : not form ≡ false) where
+  module _ (formed : form ≡ true) where
     has : has_form text ≡ true
-    has = sym is_form ∙ not-false form formed
+    has = sym is_form ∙ formed
 
     well : Form text
     well = form_of text has
@@ -52,15 +49,9 @@ module _ (text : List ℕ) (form : Bool) (is_form : form ≡ has_form text) wher
           → Read text ends r ends'
       to_read r ends' x = inr (λ f. true_false has f, (rw (is_n.said, is_m.said) at x))
 
-      pub read_2 : two ≡ true → (r : Answer) → r ≡ refused 2 → Read text ends r ends
-      read_2 t r e = to_read r ends (inl (sym is_two ∙ t, untouched e))
-
       module _ (not_two : two ≡ false) where
         in_limits : oversize n (2 * m) ≡ false
         in_limits = sym is_two ∙ not_two
-
-        pub read_3 : length ends < 2 * m → (r : Answer) → r ≡ refused 3 → Read text ends r ends
-        read_3 h r e = to_read r ends (inr (λ t. true_false t in_limits, inl (lt-ltb _ _ h, untouched e)))
 
         few : 2 * m ≤ 4096
         few = (sized n (2 * m) in_limits).2

@@ -8,7 +8,7 @@ use lib.ListN.{length, drop}
 use lib.Seq.{take_all, drop-append_seam}
 use Rattle.laws.specs.Lists.{filled}
 use Rattle.network.specs.Numbers.{Untouched}
-use Rattle.network.specs.declared.Answer.{Answer}
+use Rattle.network.specs.Numbers.{Answer}
 use Rattle.network.proofs.Sifting.{checked_elim}
 use Rattle.text.specs.Text.{room, text_of}
 use Rattle.text.specs.Calls.{Write}

@@ -9,7 +9,7 @@ use Rattle.laws.specs.Tests.{both, either, all, any, least}
 use Rattle.laws.proofs.Cases.{true_false}
 use Rattle.network.specs.Network.{Path, here, network, Connected}
 use Rattle.network.specs.Numbers.{done, Untouched, oversize, astray, mispaired}
-use Rattle.network.specs.declared.Answer.{Answer}
+use Rattle.network.specs.Numbers.{Answer}
 use Rattle.digits.specs.Digits.{digit, is_digit, value, digits, number_on, word}
 use Rattle.text.specs.Text.{frame, frames, text_of, numbers, vertices_in, lines_in, ends_in, well_placed, has_form}
 use Rattle.text.specs.Calls.{Read}

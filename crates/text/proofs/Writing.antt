@@ -13,9 +13,9 @@ use Rattle.laws.specs.Tests.{either}
 use Rattle.laws.specs.Lists.{filled}
 use Rattle.laws.proofs.Tests.{either_first, either_second, either_no}
 use Rattle.network.specs.Numbers.{refused, done, oversize, odd, Untouched}
-use Rattle.network.specs.declared.Answer.{Answer}
+use Rattle.network.specs.Numbers.{Answer}
 use Rattle.network.proofs.Checks.{sized, even}
-use Rattle.network.proofs.Sifting.{refuse_2, refuse_3, refuse_rest, untouched}
+use Rattle.network.proofs.Sifting.{refuse_3, refuse_rest, untouched}
 use Rattle.search.specs.Inside.{Faulted}
 use Rattle.text.specs.Text.{room, text_of}
 use Rattle.text.specs.Calls.{Write}
@@ -23,9 +23,6 @@ use Rattle.text.specs.Inside.{Writable}
 use Rattle.text.proofs.Accepted.{Gave}
 
 module _ (n : ℕ) (ends : List ℕ) (two : Bool) (is_two : two ≡ oversize n (length ends)) where
-  pub write_2 : (text : List ℕ) → two ≡ true → (r : Answer) → r ≡ refused 2 → Write n ends text r text
-  write_2 text t r e = refuse_2 n ends _ (Untouched text r text) (Gave n ends text r text) (sym is_two ∙ t) (untouched e)
-
   module _ (not_two : two ≡ false) (three : Bool) (is_three : three ≡ odd (length ends)) where
     in_limits : oversize n (length ends) ≡ false
     in_limits = sym is_two ∙ not_two

@@ -3,7 +3,7 @@ use Rattle.std.specs.Prelude.{true, false, List, ◌≡◌, ℕ, ◌*◌, ◌/�
 use Rattle.laws.specs.Lists.{filled}
 use Rattle.laws.specs.Checks.{Check}
 use Rattle.network.specs.Numbers.{done, Untouched, oversize, Formed, Checked}
-use Rattle.network.specs.declared.Answer.{Answer}
+use Rattle.network.specs.Numbers.{Answer}
 use Rattle.text.specs.Text.{room, text_of, vertices_in, lines_in, ends_in, has_form}
 
 -- A text in, a buffer of ends lent: with 0, the vertices, the lines, and the ends at the buffer's beginning; with a refusal, its number, and nothing changed.

@@ -27,12 +27,10 @@ fn are_frames(text: &[u8], lines: usize) -> bool
     requires { Opened text.now lines }
     ensures { result ≡ all (well_placed text.now) (length text.now) }
 {
-    let mut k = 1;
-    while k <= lines {
+    for k in 1..=lines {
         if !is_frame(text, k) {
             return false;
         }
-        k += 1;
     }
     true
 }
@@ -43,13 +41,7 @@ fn is_frame(text: &[u8], k: usize) -> bool
     ensures { result ≡ is_frame text.now k }
 {
     let at = 9 * k;
-    if !digits::is_word(text, at) {
-        return false;
-    }
-    if !digits::is_word(text, at + 4) {
-        return false;
-    }
-    text[at + 8] == 10
+    digits::is_word(text, at) && digits::is_word(text, at + 4) && text[at + 8] == b'\n'
 }
 
 // The number in the four digits at a place, as an index.
@@ -57,5 +49,5 @@ pub(crate) fn number_at(text: &[u8], at: usize) -> usize
     requires { Word text.now at }
     ensures { Number text.now at result }
 {
-    network::wide(digits::word_at(text, at))
+    digits::word_at(text, at) as usize
 }

@@ -1,5 +1,5 @@
 // Frames: the ends of lines taken from a text, and a network's frames put into one.
-ghost use Rattle.std.specs.Prelude.{◌≡◌, ◌+◌, ◌*◌, ◌/◌, ◌≤◌, ◌<◌, length};
+ghost use Rattle.std.specs.Prelude.{◌≡◌, ◌+◌, ◌*◌, ◌/◌, ◌≤◌, length};
 ghost use Rattle.std.proofs.lemmas.List.Edits.{sets};
 ghost use Rattle.laws.specs.Lists.{filled};
 ghost use Rattle.text.specs.Text.{frame, text_of, room, ends_in};
@@ -10,12 +10,10 @@ pub(crate) fn take_ends(text: &[u8], lines: usize, ends: &mut [u16])
     requires { Parsable text.now lines ends.old }
     ensures { ends.new ≡ filled (2 * lines) (ends_in text.now) ends.old }
 {
-    let mut k = 0;
-    while k < lines {
+    for k in 0..lines {
         let at = 9 * (k + 1);
         ends[2 * k] = digits::word_at(text, at);
         ends[2 * k + 1] = digits::word_at(text, at + 4);
-        k += 1;
     }
 }
 
@@ -35,10 +33,8 @@ fn put_lines(ends: &[u16], text: &mut [u8])
     ensures { text.new ≡ after_first ends.now (length ends.now / 2) text.old }
 {
     let lines = ends.len() / 2;
-    let mut k = 0;
-    while k < lines {
+    for k in 0..lines {
         put_frame(text, 9 * (k + 1), ends[2 * k], ends[2 * k + 1]);
-        k += 1;
     }
 }
 
@@ -47,7 +43,7 @@ fn put_frame(text: &mut [u8], at: usize, a: u16, b: u16)
     requires { at + 9 ≤ length text.old }
     ensures { text.new ≡ sets text.old at (frame a b) }
 {
-    digits::put_word(text, at, a);
-    digits::put_word(text, at + 4, b);
-    text[at + 8] = 10;
+    digits::put_number(text, at, 4, a);
+    digits::put_number(text, at + 4, 4, b);
+    text[at + 8] = b'\n';
 }

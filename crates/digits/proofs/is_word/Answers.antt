@@ -1,15 +1,11 @@
--- `is_word` computes its definition, digit by digit.
-use Rattle.digits.proofs.Words.{word_no_first, word_no_second, word_no_third, word_fourth}
+-- `is_word` tests each of the four bytes.
+use Prim.Native.Nat.{◌+◌}
+use Rattle.std.proofs.Common.{rules, IsTrue, ◌↔◌, All, slice_range}
+use Rattle.digits.specs.Digits.{is_digit}
+use Rattle.digits.proofs.Words.{word_all}
 use Rattle.digits.proofs.is_word.Goals as goal
 
-pub returns-then-not-is_digit : goal.returns-then-not-is_digit
-returns-then-not-is_digit c = search word_no_first
-
-pub returns-then-not-is_digit-2 : goal.returns-then-not-is_digit-2
-returns-then-not-is_digit-2 c = search word_no_second
-
-pub returns-then-not-is_digit-3 : goal.returns-then-not-is_digit-3
-returns-then-not-is_digit-3 c = search word_no_third
-
 pub returns : goal.returns
-returns c = search word_fourth
+returns c =
+    let four : IsTrue c.all.result ↔ All (λ b. IsTrue (is_digit b)) (slice_range c.args.text.now c.args.at (c.args.at + 4)) = search rules in
+    word_all c.args.text.now c.args.at c.all.result c.requires four

@@ -1,18 +1,21 @@
--- `word_at` computes its definition: four digits, each sixteen times what stands before it.
-use Rattle.digits.proofs.Words.{digit_first, digit_second, digit_third, digit_fourth, word_is}
+-- `word_at` goes over the four digits: each counts sixteen times what stands before it, and itself.
+use Rattle.digits.proofs.Words.{reading_none, word_digit, shifted_fits, more_fits, reading_more, word_is}
 use Rattle.digits.proofs.word_at.Goals as goal
 
-pub value-a-requires : goal.value-a-requires
-value-a-requires c = search digit_first
+pub loop-k-init : goal.loop-k-init
+loop-k-init c = search reading_none
 
-pub value-b-requires : goal.value-b-requires
-value-b-requires c = search digit_second
+pub overflow_mul-number : goal.overflow_mul-number
+overflow_mul-number c = search shifted_fits
 
-pub value-c-requires : goal.value-c-requires
-value-c-requires c = search digit_third
+pub value-requires : goal.value-requires
+value-requires c = search word_digit
 
-pub value-d-requires : goal.value-d-requires
-value-d-requires c = search digit_fourth
+pub overflow_add-number : goal.overflow_add-number
+overflow_add-number c = search more_fits
+
+pub loop-k-preserved : goal.loop-k-preserved
+loop-k-preserved c = search reading_more
 
 pub returns : goal.returns
 returns c = search word_is

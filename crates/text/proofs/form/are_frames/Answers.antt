@@ -1,5 +1,5 @@
 -- `are_frames` computes its definition: the places of the frames passed so far are right.
-use Rattle.text.proofs.Places.{rights_start, rights_more, rights_no, rights_all}
+use Rattle.text.proofs.Places.{rights_start, rights_more, rights_no, rights_last, rights_all}
 use Rattle.text.proofs.form.are_frames.Goals as goal
 
 pub loop-k-init : goal.loop-k-init
@@ -13,3 +13,6 @@ loop-k-preserved c = search rights_more
 
 pub returns : goal.returns
 returns c = search rights_all
+
+pub returns-else-not-is_frame : goal.returns-else-not-is_frame
+returns-else-not-is_frame c = search rights_last

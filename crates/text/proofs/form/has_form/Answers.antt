@@ -1,5 +1,5 @@
 -- `has_form` computes its definition: the first frame, the length that it asks, and the other frames.
-use Rattle.text.proofs.Places.{form_short, form_no_first, lines_word, form_no_room, opened, form_last}
+use Rattle.text.proofs.Places.{form_short, form_no_first, lines_word, form_no_room, form_last}
 use Rattle.text.proofs.form.has_form.Goals as goal
 
 pub returns-then-text-lt9 : goal.returns-then-text-lt9
@@ -13,9 +13,6 @@ number_at-lines-requires c = search lines_word
 
 pub returns-then-text-lines : goal.returns-then-text-lines
 returns-then-text-lines c = search form_no_room
-
-pub are_frames-requires : goal.are_frames-requires
-are_frames-requires c = search opened
 
 pub returns : goal.returns
 returns c = search form_last
