@@ -1,5 +1,5 @@
 -- Tables of a finished search, and of what lines are like. (What functions inside ask of each other.)
-use Rattle.std.specs.Prelude.{List, ◌≡◌, ℕ, ◌+◌, ◌*◌, ◌≤◌, ◌<◌, get_or, length}
+use Rattle.std.specs.Prelude.{List, ◌≡◌, ℕ, ◌*◌, ◌≤◌, ◌<◌, get_or, length}
 use Rattle.laws.specs.Lists.{at}
 use Rattle.laws.specs.Chains.{Chained}
 use Rattle.tree.specs.Tree.{Tree}
@@ -8,6 +8,7 @@ use Rattle.tree.specs.Words.{Line, TreeLine, BackLine}
 use Rattle.tree.specs.Searched.{Searched}
 use Rattle.tree.specs.Grown.{Grown}
 use Rattle.fork.specs.Ends.{high, top}
+use Rattle.fork.specs.declared.Forks.{Forks}
 
 -- The tables are those of a finished search: within the limits, grown, and every line a tree line or a back line.
 pub record Known (n m : ℕ) (ends kinds heights parents : List ℕ) : Type 0 where
@@ -19,14 +20,6 @@ pub record Known (n m : ℕ) (ends kinds heights parents : List ℕ) : Type 0 wh
   pub kinds_long : length kinds ≡ 2048
   pub heights_long : length heights ≡ 512
   pub parents_long : length parents ≡ 512
-
--- A contract speaks of a tree that no parameter holds: what is asked holds in some tree; what is promised holds in each tree in which it was asked.
-pub record SomeTree (Asked : Tree → Type 0) : Type 0 where
-  pub tree : Tree
-  pub asked : Asked tree
-
-abbrev pub EachTree : (Tree → Type 0) → (Tree → Type 0) → Type 0
-EachTree Asked Promised = (S : Tree) → Asked S → Promised S
 
 -- S is the tree of a finished search, within the limits, and every line is in it.
 pub record Finished (S : Tree) : Type 0 where
@@ -51,33 +44,36 @@ pub record Parents (S : Tree) (parents : List ℕ) : Type 0 where
   pub long : length parents ≡ 512
   pub each : (v : ℕ) → v < S.vertices → at parents v ≡ S.parent v
 
--- The table of forks has five columns of 2,048 places, one place a line (src/columns.rt). The first two: the vertex that the line leaves, and the height
--- at which it ends if it is a back line; a tree line has 512, which is no height.
-pub record Spans (S : Tree) (t : List ℕ) : Type 0 where
-  pub long : length t ≡ 10240
-  pub sources : (k : ℕ) → k < S.lines → at t (0 + k) ≡ S.source k
-  pub stops : (b : ℕ) → BackLine S b → at t (2048 + b) ≡ end S b
-  pub no_stops : (f : ℕ) → TreeLine S f → at t (2048 + f) ≡ 512
+-- The table of forks has 2,048 places in each of its columns, one a line.
+pub record Long (t : Forks) : Type 0 where
+  pub sources : length t.source ≡ 2048
+  pub stops : length t.stop ≡ 2048
+  pub lows : length t.low ≡ 2048
+  pub highs : length t.high ≡ 2048
+  pub tops : length t.top ≡ 2048
 
--- The third: how low the line's returns end.
-pub record Lows (S : Tree) (t : List ℕ) : Type 0 where
-  pub each : (k : ℕ) → k < S.lines → at t (4096 + k) ≡ low S k
+-- Two of the columns: the vertex that the line leaves, and the height at which it ends if it is a back line; a tree line has 512, which is no height.
+pub record Spans (S : Tree) (t : Forks) : Type 0 where
+  pub long : Long t
+  pub sources : (k : ℕ) → k < S.lines → at t.source k ≡ S.source k
+  pub stops : (b : ℕ) → BackLine S b → at t.stop b ≡ end S b
+  pub no_stops : (f : ℕ) → TreeLine S f → at t.stop f ≡ 512
 
--- The last two: how high they end, and the one of them with the lowest number that ends so high; 0 and the number of lines where there is none.
-pub record Tops (S : Tree) (t : List ℕ) : Type 0 where
-  pub highs : (k : ℕ) → k < S.lines → at t (6144 + k) ≡ high S k
-  pub tops : (k : ℕ) → k < S.lines → at t (8192 + k) ≡ top S k
+-- How low the line's returns end.
+pub record Lows (S : Tree) (t : Forks) : Type 0 where
+  pub each : (k : ℕ) → k < S.lines → at t.low k ≡ low S k
 
--- All five.
-pub record Tabled (S : Tree) (t : List ℕ) : Type 0 where
+-- How high they end, and the one of them with the lowest number that ends so high; 0 and the number of lines where there is none.
+pub record Tops (S : Tree) (t : Forks) : Type 0 where
+  pub highs : (k : ℕ) → k < S.lines → at t.high k ≡ high S k
+  pub tops : (k : ℕ) → k < S.lines → at t.top k ≡ top S k
+
+-- All of them.
+pub record Tabled (S : Tree) (t : Forks) : Type 0 where
   pub spans : Spans S t
   pub lows : Lows S t
   pub tops : Tops S t
 
 -- The back lines chained by the heights at which they end. (The chain of 512 has the tree lines, and nobody goes along it.)
-abbrev pub Buckets : Tree → List ℕ → List ℕ → List ℕ → Type 0
-Buckets S t heads nexts = Chained 513 2048 S.lines (λ k. at t (2048 + k)) heads nexts
-
--- x is what a column of the table of forks has at line e.
-abbrev pub Named : List ℕ → ℕ → ℕ → ℕ → Type 0
-Named t column e x = (x ≡ at t (column + e)) × (x < 65536)
+abbrev pub Buckets : Tree → Forks → List ℕ → List ℕ → Type 0
+Buckets S t heads nexts = Chained 513 2048 S.lines (at t.stop) heads nexts

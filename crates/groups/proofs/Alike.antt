@@ -1,7 +1,7 @@
 -- Tables that agree on the lines are groups under the same constraints.
 use mathlib.Core.Bool.{Bool}
 use mathlib.Core.Logic.{inr}
-use mathlib.Core.Path.{◌≡◌, sym, ap, ◌∙◌, subst}
+use mathlib.Core.Path.{◌≡◌, refl, sym, ap, ◌∙◌, subst}
 use Prim.Native.Nat.{ℕ, ◌≤◌, ◌<◌}
 use native.Mathlib.Omega.{arith}
 use Rattle.groups.specs.Constraints.{Constraints, More, Sided}
@@ -9,7 +9,19 @@ use Rattle.groups.specs.Groups.{Tables, Grouped, Joins}
 use Rattle.groups.specs.Calls.{Alike, Joined, JoiningGives}
 use Rattle.groups.specs.declared.Joining.TheVariants.{Agrees}
 use Rattle.groups.proofs.Ways.{way_map}
-use Rattle.groups.proofs.Groups.{grouped_agrees, grouped_joined}
+use Rattle.groups.proofs.Grouped.{grouped_agrees, grouped_joined}
+
+pub alike_same : (n : ℕ) (t : Tables) → Alike n t t
+alike_same n t = record { leaders = λ x h. refl; parities = λ x h. refl; froms = λ x h. refl; tos = λ x h. refl }
+
+pub alike_then : {n : ℕ} {t u v : Tables} → Alike n t u → Alike n u v → Alike n t v
+alike_then a b =
+    record {
+      leaders = λ x h. b.leaders x h ∙ a.leaders x h;
+      parities = λ x h. b.parities x h ∙ a.parities x h;
+      froms = λ x h. b.froms x h ∙ a.froms x h;
+      tos = λ x h. b.tos x h ∙ a.tos x h;
+    }
 
 module _ (lines : ℕ) (back : ℕ → Bool) (P : Constraints) (n : ℕ) (few : lines ≤ n) (t t' : Tables) (a : Alike n t t') (g : Grouped lines back P t) where
   led : (b : ℕ) → b < lines → t'.leader b ≡ t.leader b

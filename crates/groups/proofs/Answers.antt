@@ -1,33 +1,23 @@
--- What the functions' answers mean: the groups at the start; flat ones at the end; the first choice; the next one, or none.
+-- What the functions' answers mean: the groups at the start; the first choice; the next one, or none.
 use mathlib.Core.Bool.{Bool, true, false}
 use mathlib.Core.List.{List}
 use mathlib.Core.Path.{◌≡◌, sym, ◌∙◌}
-use Prim.Native.Nat.{ℕ, ◌+◌, ◌≤◌, ◌<◌}
+use Prim.Native.Nat.{ℕ, ◌≤◌, ◌<◌}
 use native.Mathlib.Omega.{arith}
-use lib.ListN.{length, replicate, length-replicate, get_or-replicate}
+use lib.ListN.{length}
 use Rattle.laws.specs.Lists.{at, Agree}
 use Rattle.laws.specs.Dictionary.{First, Next, Last}
-use Rattle.laws.proofs.Cases.{cases, bool}
 use Rattle.laws.proofs.Dictionary.{first_agree}
 use Rattle.groups.specs.Constraints.{Constraints, Satisfies}
 use Rattle.groups.specs.Groups.{columns, pointed, Grouped}
-use Rattle.groups.specs.Calls.{Pointing, Started, Reading, Copied, Advanced, Stuck}
-use Rattle.groups.proofs.Groups.{None, grouped_none}
+use Rattle.groups.specs.Calls.{Started, Reading, Copied, Advanced, Stuck}
+use Rattle.groups.specs.declared.Groups.{Groups}
+use Rattle.groups.proofs.Grouped.{None, grouped_none}
 use Rattle.groups.proofs.Choosing.{parity_first, parity_obeys, turned_next, no_pivot_last}
 
 -- The start
 
--- in a table of zeros each line points to line 0
-pub fresh_pointing : Pointing (replicate {A = ℕ} 8192 0)
-fresh_pointing =
-    let zeros : (x : ℕ) → x < 8192 → at (replicate {A = ℕ} 8192 0) x ≡ 0 = λ x h. get_or-replicate {A = ℕ} 8192 x 0 0 h in
-    record {
-      long = length-replicate {A = ℕ} 8192 0;
-      down = λ x h. omega (arith, zeros x (omega arith));
-      own = λ x h e. omega (arith, zeros (2048 + x) (omega arith));
-    }
-
-pub grouped_start : (lines : ℕ) (back : ℕ → Bool) (kinds g : List ℕ)
+pub grouped_start : (lines : ℕ) (back : ℕ → Bool) (kinds : List ℕ) (g : Groups)
     → ((b : ℕ) → b < lines → back b ≡ true → at kinds b ≡ 1) → ((b : ℕ) → b < lines → back b ≡ false → at kinds b ≡ 1 → ⊥)
     → Started lines kinds g → Grouped lines back None (pointed g)
 grouped_start lines back kinds g yes' no' s =
@@ -38,23 +28,12 @@ grouped_start lines back kinds g yes' no' s =
       trees = λ b h e. (s.parities b h).other (no' b h e);
     })
 
--- The end
-
 -- The choices
 
-module _ (lines : ℕ) (back : ℕ → Bool) (P : Constraints) (g : List ℕ) (s : Grouped lines back P (columns g)) where
-  pub reading : (choice : List ℕ) → lines ≤ 2048 → length g ≡ 8192 → lines ≤ length choice → Reading lines g choice
-  reading choice few long h =
-      record {
-        few = few;
-        long = long;
-        bytes = h;
-        inside = λ x o. omega (arith, s.low x o);
-        small = λ x o.
-            cases (bool (back x))
-            (λ e. omega (arith, s.side x (record { within = o; is_back = e })))
-            (λ e. omega (arith, (s.tree x o e).1));
-      }
+module _ (lines : ℕ) (back : ℕ → Bool) (P : Constraints) (g : Groups) (s : Grouped lines back P (columns g)) where
+  pub reading : (choice : List ℕ) → lines ≤ 2048 → lines ≤ length choice → Reading lines g choice
+  reading choice few h =
+      record { few = few; bytes = h; inside = λ x o. omega (arith, s.low x o) }
 
   obeys_agree : (c d : ℕ → ℕ) → Agree lines d c → Satisfies lines back P c → Satisfies lines back P d
   obeys_agree c d a o =

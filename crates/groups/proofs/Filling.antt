@@ -1,24 +1,24 @@
 -- Loops that write a list from the front: each place below i has what it should, and the rest is as it was.
 use mathlib.Core.Bool.{Bool, true, false, not}
 use mathlib.Core.List.{List}
-use mathlib.Core.Logic.{inl, inr, ◌≢◌}
+use mathlib.Core.Logic.{◌≢◌}
 use mathlib.Core.Path.{◌≡◌, refl, sym, ◌∙◌, ap}
 use Prim.Native.Nat.{ℕ, zero, suc, ◌+◌, ◌-◌, ◌%◌, ◌≤◌, ◌<◌}
-use native.Mathlib.Numerals.{add-one}
 use native.Mathlib.Omega.{arith}
 use lib.Dec.{eqb}
-use lib.ListN.{length, set, length-set}
+use lib.ListN.{length, set, length-set, take, drop}
 use lib.Seq.{get_or-set_same, get_or-set_other}
 use borrow.Author.Tests.{eq-eqb, ne_eqb, lt-leb, le-leb, not-true, not-false}
 use Rattle.laws.specs.Tests.{both, all}
-use Rattle.laws.specs.Lists.{at, Past}
+use Rattle.std.proofs.lemmas.List.{get_or_append_left, get_or-append_right, get_or-take, get_or-drop, length-take-le}
+use Rattle.laws.specs.Lists.{at, Past, filled}
 use Rattle.laws.proofs.Cases.{cases, eq_or, bool, true_false}
 use Rattle.laws.proofs.Tests.{all_yes, all_of}
 use Rattle.side.specs.Sides.{opposite}
 use Rattle.side.proofs.Opposite.{opposite_left, opposite_other}
-use Rattle.groups.specs.Groups.{columns, PutAt, Recoloured, fitb, fitsb}
-use Rattle.groups.specs.Calls.{Copied, Sought, Rewritten, Advanced, Stuck, Reading, Wide}
-use Rattle.groups.proofs.Choosing.{pivot_more, no_pivot_more, pivot_here}
+use Rattle.groups.specs.Groups.{columns, PutAt, PutBelow, Recoloured, Pivot, NoPivot, fitb, fitsb}
+use Rattle.groups.specs.Calls.{Copied, Rewritten, Reading}
+use Rattle.groups.specs.declared.Groups.{Groups}
 
 -- a store, where it is and elsewhere
 pub stored : (l : List ℕ) (i v : ℕ) → i < length l → at (set l i v) i ≡ v
@@ -29,6 +29,9 @@ beside l i v j d = get_or-set_other l i j v 0 d
 
 pub put_at : (l : List ℕ) (v x : ℕ) → v < length l → PutAt (at l) v x (at (set l v x))
 put_at l v x h = record { here = stored l v x h; there = λ b e. beside l v x b e }
+
+pub put_below : (n : ℕ) (l : List ℕ) (v x : ℕ) → v < length l → PutBelow n (at l) v x (at (set l v x))
+put_below n l v x h = record { here = stored l v x h; there = λ b k e. beside l v x b e }
 
 pub record Filled (P : ℕ → ℕ → Type 0) (n i : ℕ) (old new : List ℕ) : Type 0 where
   pub upto : i ≤ n
@@ -57,34 +60,34 @@ filled_all P n i old l f h j o = f.done j (omega arith)
 filled_rest : (P : ℕ → ℕ → Type 0) (n i : ℕ) (old l : List ℕ) → Filled P n i old l → Past n old l
 filled_rest P n i old l f j o = f.rest j (omega (arith, f.upto))
 
--- a parity is one that a choice may write
-pub byte_small : (lines b : ℕ) (g choice : List ℕ) → Reading lines g choice → b < lines → at g (2048 + b) ≤ 2
-byte_small lines b g choice r h = r.small b h
-
 -- The first choice
 
-unfoldable pub Copies : List ℕ → ℕ → ℕ → Type 0
-Copies g j v = v ≡ (columns g).parity j
+module _ (lines : ℕ) (g : Groups) (choice choice' : List ℕ) (r : Reading lines g choice) (e : choice' ≡ filled lines g.parity choice) where
+  laid_long : length (take lines g.parity) ≡ lines
+  laid_long = length-take-le lines g.parity (omega (arith, r.few, g.long.1))
 
-module _ (lines b : ℕ) (g old l : List ℕ) (f : Filled (Copies g) lines b old l) where
-  pub copies_more : (v : ℕ) → b < lines → v ≡ at g (2048 + b) → Filled (Copies g) lines (b + 1) old (set l b v)
-  unfolding Copies
-  copies_more v h e = filled_more f h e
-
-  pub copied : lines ≤ b → Copied lines g old l
-  unfolding Copies
-  copied h = record { bytes = filled_all (Copies g) lines b old l f h; rest = filled_rest (Copies g) lines b old l f }
+  pub laid_first : Copied lines g choice choice'
+  laid_first =
+      record {
+        bytes = λ b h.
+            rw e
+            (get_or_append_left (take lines g.parity) (drop lines choice) 0 b (omega (arith, laid_long)) ∙ get_or-take lines g.parity b 0 h);
+        rest = λ j h.
+            let back : lines + (j - lines) ≡ j = omega arith in
+            rw e
+            (get_or-append_right (take lines g.parity) (drop lines choice) lines j 0 laid_long h ∙ get_or-drop lines choice (j - lines) 0 ∙ ap (at choice) back);
+      }
 
 -- Turning
 
-unfoldable pub Turns : List ℕ → List ℕ → ℕ → ℕ → ℕ → Type 0
+unfoldable pub Turns : Groups → List ℕ → ℕ → ℕ → ℕ → Type 0
 Turns g old r j v = Recoloured ((columns g).leader j) ((columns g).parity j) (at old j) r v
 
-module _ (lines b r : ℕ) (g old l : List ℕ) (f : Filled (Turns g old r) lines b old l) where
-  pub turns_more : (w p v : ℕ) → b < lines → Wide (at g b) w → p ≡ at g (2048 + b) → Recoloured w p (at l b) r v
+module _ (lines b r : ℕ) (g : Groups) (old l : List ℕ) (f : Filled (Turns g old r) lines b old l) where
+  pub turns_more : (v : ℕ) → b < lines → Recoloured (at g.leader b) (at g.parity b) (at l b) r v
       → Filled (Turns g old r) lines (b + 1) old (set l b v)
   unfolding Turns
-  turns_more w p v h e q c = filled_more f h (rw (← e.is, ← q, ← f.rest b (omega arith)) c)
+  turns_more v h c = filled_more f h (rw (← f.rest b (omega arith)) c)
 
   pub turns_all : lines ≤ b → Rewritten lines r g old l
   unfolding Turns
@@ -92,45 +95,35 @@ module _ (lines b r : ℕ) (g old l : List ℕ) (f : Filled (Turns g old r) line
 
 -- The pivot
 
-pub record Seeking (lines b : ℕ) (g choice : List ℕ) (r : ℕ) : Type 0 where
+-- no line from b on leads and is left
+pub record Seeking (lines b : ℕ) (g : Groups) (choice : List ℕ) : Type 0 where
   pub upto : b ≤ lines
-  pub sought : Sought lines b (columns g).leader (at choice) r
+  pub above : (s : ℕ) → b ≤ s → s < lines → at g.leader s ≡ s → at choice s ≡ 0 → ⊥
 
-module _ (lines : ℕ) (g choice : List ℕ) where
-  pub seek_none : Seeking lines 0 g choice lines
-  seek_none = record { upto = omega arith; sought = inr (refl, λ s h. absurd (omega arith)) }
+module _ (lines : ℕ) (g : Groups) (choice : List ℕ) where
+  pub seek_none : Seeking lines lines g choice
+  seek_none = record { upto = omega arith; above = λ s o h. absurd (omega arith) }
 
-  module _ (b r w : ℕ) (s : Seeking lines b g choice r) (h : b < lines) (e : Wide (at g b) w) where
-    pub seek_here : w ≡ b → at choice b ≡ 0 → Seeking lines (b + 1) g choice b
-    seek_here q z =
-        record { upto = omega arith; sought = rw add-one (inl (pivot_here (columns g).leader (at choice) b (sym e.is ∙ q) z)) }
+  module _ (b : ℕ) (s : Seeking lines b g choice) (h : 0 < b) where
+    pub seek_here : at g.leader (b - 1) ≡ b - 1 → at choice (b - 1) ≡ 0 → Pivot lines (columns g).leader (at choice) (b - 1)
+    seek_here q z = record { within = omega (arith, s.upto); leads = q; left = z; above = λ j o. s.above j (omega arith) }
 
-    pass : (at g b ≡ b → at choice b ≡ 0 → ⊥) → Seeking lines (b + 1) g choice r
+    pass : (at g.leader (b - 1) ≡ b - 1 → at choice (b - 1) ≡ 0 → ⊥) → Seeking lines (b - 1) g choice
     pass o =
         record {
-          upto = omega arith;
-          sought =
-              rw add-one
-              (cases s.sought
-              (λ p. inl (pivot_more (columns g).leader (at choice) b o p))
-              (λ p. inr (p.0, no_pivot_more (columns g).leader (at choice) b o p.1)));
+          upto = omega (arith, s.upto);
+          above = λ j k u.
+              cases (eq_or j (b - 1)) (λ q. rw q o) (λ d. let d' : j ≢ b - 1 = d in s.above j (omega arith) u);
         }
 
-    pub seek_right : (at choice b ≡ 0 → ⊥) → Seeking lines (b + 1) g choice r
+    pub seek_right : (at choice (b - 1) ≡ 0 → ⊥) → Seeking lines (b - 1) g choice
     seek_right n = pass (λ q z. n z)
 
-    pub seek_led : (w ≡ b → ⊥) → Seeking lines (b + 1) g choice r
-    seek_led n = pass (λ q z. n (e.is ∙ q))
+    pub seek_led : (at g.leader (b - 1) ≡ b - 1 → ⊥) → Seeking lines (b - 1) g choice
+    seek_led n = pass (λ q z. n q)
 
-  pub seek_all : (b r : ℕ) → Seeking lines b g choice r → lines ≤ b → Sought lines lines (columns g).leader (at choice) r
-  seek_all b r s h = let e : b ≡ lines = omega (arith, s.upto) in rw e at s.sought
-
-pub stuck : (lines r : ℕ) (g choice : List ℕ) → Sought lines lines (columns g).leader (at choice) r → r ≡ lines → Stuck lines g choice choice
-stuck lines r g choice s e = record { none = cases s (λ p. absurd (omega (arith, p.within))) (λ p. p.1); same = refl }
-
-pub advanced : (lines r : ℕ) (g choice choice' : List ℕ) → Rewritten lines r g choice choice' → Sought lines lines (columns g).leader (at choice) r
-    → (r ≡ lines → ⊥) → Advanced lines g choice choice'
-advanced lines r g choice choice' w s n = record { pivot = r; highest = cases s (λ p. p) (λ p. absurd (n p.0)); turned = w }
+  pub seek_all : (b : ℕ) → Seeking lines b g choice → b ≤ 0 → NoPivot lines (columns g).leader (at choice)
+  seek_all b s h j o = s.above j (omega arith) o
 
 -- The test of a choice
 
@@ -147,23 +140,19 @@ module _ (p x y : ℕ) where
   unfolding fitb both
   fit_side r n h e = rw (e, ne_eqb p 2 n, le-leb x 1 h)
 
-pub record Fitting (lines b : ℕ) (g choice : List ℕ) : Type 0 where
+pub record Fitting (lines b : ℕ) (g : Groups) (choice : List ℕ) : Type 0 where
   pub upto : b ≤ lines
   pub fit : (j : ℕ) → j < b → fitb ((columns g).parity j) (at choice j) (at choice ((columns g).leader j)) ≡ true
 
-module _ (lines : ℕ) (g choice : List ℕ) where
+module _ (lines : ℕ) (g : Groups) (choice : List ℕ) where
   pub fitting_none : Fitting lines 0 g choice
   fitting_none = record { upto = omega arith; fit = λ j h. absurd (omega arith) }
 
-  module _ (b w : ℕ) (s : Fitting lines b g choice) (h : b < lines) (e : Wide (at g b) w) where
-    pub led_inside : Reading lines g choice → w < length choice
-    led_inside q = omega (arith, q.inside b h, e.is, q.bytes)
+  module _ (b : ℕ) (s : Fitting lines b g choice) (h : b < lines) where
+    pub led_inside : Reading lines g choice → at g.leader b < length choice
+    led_inside q = omega (arith, q.inside b h, q.bytes)
 
-    module _ (p : ℕ) (is_parity : p ≡ at g (2048 + b)) (r : Bool) (is : r ≡ fitb p (at choice b) (at choice w)) where
-      here : r ≡ fitb ((columns g).parity b) (at choice b) (at choice ((columns g).leader b))
-      here =
-          is ∙ ap (λ (z : ℕ). fitb z (at choice b) (at choice w)) is_parity ∙ ap (λ (z : ℕ). fitb ((columns g).parity b) (at choice b) (at choice z)) e.is
-
+    module _ (r : Bool) (here : r ≡ fitb (at g.parity b) (at choice b) (at choice (at g.leader b))) where
       pub fitting_more : not r ≡ false → Fitting lines (b + 1) g choice
       fitting_more t =
           record {

@@ -4,16 +4,19 @@
 --
 -- The idea: leaders and parities that go along with the pointers step by step are determined by them. So to know what changed pointers stand for it
 -- is enough to look at the lines where they changed.
-use mathlib.Core.List.{List}
 use mathlib.Core.Logic.{◌≢◌}
 use mathlib.Core.Path.{◌≡◌, refl, sym, ◌∙◌, ap}
 use Prim.Native.Nat.{ℕ, zero, suc, ◌+◌, ◌%◌, ◌≤◌, ◌<◌}
 use native.Mathlib.Omega.{arith}
+use lib.ListN.{replicate, length-replicate, get_or-replicate}
 use borrow.Author.Tests.{eq-eqb, ne_eqb}
+use Rattle.laws.specs.Lists.{at}
 use Rattle.laws.proofs.Cases.{cases, eq_or}
 use Rattle.groups.specs.Constraints.{Even}
 use Rattle.groups.specs.Groups.{root, facing, columns, pointed, PutBelow, Relabel, Relabelled}
+use Rattle.groups.specs.Pointers.{Long, PointsDown, OwnSide}
 use Rattle.groups.specs.Calls.{Pointing}
+use Rattle.groups.specs.declared.Groups.{Groups}
 
 -- No pointer of the first n leads up.
 abbrev pub Down : ℕ → (ℕ → ℕ) → Type 0
@@ -92,9 +95,34 @@ module _ (up entry : ℕ → ℕ) where
               facing_step x (suc x) d ∙ ap (λ (z : ℕ). (entry (suc x) + z) % 2) (facing_enough x (up (suc x)) (up (suc x)) (omega arith) o (omega arith)),
             )
 
-pub pointed_stands : (g : List ℕ) → Pointing g → StandsFor 2048 (columns g).leader (columns g).parity (pointed g).leader (pointed g).parity
+-- In a table of zeros each line points to line 0.
+
+pub zeros_long : Long (replicate {A = ℕ} 2048 0) (replicate {A = ℕ} 2048 0) (replicate {A = ℕ} 2048 0) (replicate {A = ℕ} 2048 0)
+zeros_long = let long = length-replicate {A = ℕ} 2048 0 in (long, long, long, long)
+
+pub zeros_down : PointsDown (replicate {A = ℕ} 2048 0)
+zeros_down x h = omega (arith, get_or-replicate {A = ℕ} 2048 x 0 0 h)
+
+pub zeros_own : OwnSide (replicate {A = ℕ} 2048 0) (replicate {A = ℕ} 2048 0)
+zeros_own x h e = omega (arith, get_or-replicate {A = ℕ} 2048 x 0 0 h)
+
+-- What every table keeps to, and what its pointers stand for.
+
+pub pointing : (g : Groups) → Pointing g
+pointing g = record { long = g.long; down = g.down; own = g.own }
+
+pub pointed_stands : (g : Groups) → StandsFor 2048 (columns g).leader (columns g).parity (pointed g).leader (pointed g).parity
 unfolding pointed
-pointed_stands g p = by_steps (columns g).leader (columns g).parity 2048 p.down
+pointed_stands g = by_steps (columns g).leader (columns g).parity 2048 g.down
+
+-- the other two columns are what they stand for
+pub from_pointed : (g : Groups) (x : ℕ) → (pointed g).from x ≡ at g.from x
+unfolding pointed
+from_pointed g x = refl
+
+pub to_pointed : (g : Groups) (x : ℕ) → (pointed g).to x ≡ at g.to x
+unfolding pointed
+to_pointed g x = refl
 
 -- No line is below its leader, and one that leads itself points to itself.
 module _ {n : ℕ} {up entry leader parity : ℕ → ℕ} (down : Down n up) (f : StandsFor n up entry leader parity) where

@@ -1,9 +1,10 @@
 -- Groups of back lines that constraints hold together, in tables. Of each group one line, the lowest, leads.
 -- A constraint is taken in by joining the groups of its two lines: the group of the higher leader is given to the lower one.
-use Rattle.std.specs.Prelude.{Bool, false, cond, List, ◌⊎◌, ◌≡◌, ℕ, zero, suc, ◌+◌, ◌-◌, ◌%◌, ◌≤◌, ◌<◌, eqb, leb}
+use Rattle.std.specs.Prelude.{Bool, false, cond, ◌⊎◌, ◌≡◌, ℕ, zero, suc, ◌+◌, ◌-◌, ◌%◌, ◌≤◌, ◌<◌, eqb, leb}
 use Rattle.laws.specs.Tests.{both, all}
 use Rattle.laws.specs.Lists.{at}
 use Rattle.groups.specs.Constraints.{Constraints, Even, Keeps, Sided}
+use Rattle.groups.specs.declared.Groups.{Groups}
 
 -- By lines: the leader of its group; its side where the leader is left, with 2 at a tree line; and the two lines of the constraint that joined
 -- the group it led to another, both the line itself where there is none.
@@ -13,11 +14,11 @@ pub record Tables : Type 0 where
   pub from : ℕ → ℕ
   pub to : ℕ → ℕ
 
--- .. as the columns of one table of 8,192 places, 2,048 for each.
-abbrev pub columns : List ℕ → Tables
-columns g = record { leader = at g; parity = λ b. at g (2048 + b); from = λ b. at g (4096 + b); to = λ b. at g (6144 + b) }
+-- .. as the columns of the table that the code has.
+abbrev pub columns : Groups → Tables
+columns g = record { leader = at g.leader; parity = at g.parity; from = at g.from; to = at g.to }
 
--- While constraints are taken in, the first column points: a line to a lower one of its group, or to itself where it leads; and the second says whether
+-- While constraints are taken in, the column `leader` points: a line to a lower one of its group, or to itself where it leads; and `parity` says whether
 -- the line is on the other side of that one. Where n steps along the pointers lead, and what the turns on the way come to.
 unfoldable pub root : (ℕ → ℕ) → ℕ → ℕ → ℕ
 root up zero x = x
@@ -28,7 +29,7 @@ facing up entry zero x = entry x
 facing up entry (suc n) x = cond (eqb (up x) x) (entry x) ((entry x + facing up entry n (up x)) % 2)
 
 -- .. and what the table then stands for: no pointer leads up, so a line's own number of steps is enough.
-unfoldable pub pointed : List ℕ → Tables
+unfoldable pub pointed : Groups → Tables
 pointed g =
     record {
       leader = λ b. root (columns g).leader b b;

@@ -5,16 +5,31 @@
 #![tactic(auto)]
 
 pub mod choice; // the first choice, the next choice, the test of a choice
-pub mod columns; // the table of groups
 
-ghost use Rattle.std.specs.Prelude.{◌≡◌, ℕ, ◌+◌, ◌%◌, ◌≤◌, ◌<◌};
-ghost use Rattle.groups.specs.Calls.{Wide, Pointing, BaseParity, Started, Joinable, Passable, PassedBy, LookedUp, Mergeable, GivenOver, Replied, Flattened};
+ghost use Rattle.std.specs.Prelude.{◌≡◌, ◌+◌, ◌%◌, ◌≤◌, ◌<◌, replicate};
+ghost use Rattle.groups.specs.Pointers.{Long, PointsDown, OwnSide, BaseParity};
 
-use columns::{FROM, LEADER, PARITY, TO, leader};
 use network::Kind;
 use side::{Side, Wants};
 
-// What taking in a constraint came to.
+// The groups of the back lines (`columns` and `pointed`, specs/Groups.antt), an array for each column: the first choice is copied from one as it stands. Of
+// each line:
+#[derive(Drop)]
+pub struct Groups {
+    // The line that leads its group; while constraints are taken in, that line or one on the way to it.
+    pub leader: [u16; 2048],
+    // 1 where it is on the other side of that line, 0 where on the same; at a tree line 2.
+    pub parity: [u8; 2048],
+    // The two lines of the constraint that joined the group it led to another; the line itself where there is none.
+    pub from: [u16; 2048],
+    pub to: [u16; 2048],
+    // No place is missing, no pointer leads up, and a line that points to itself lies on its own side.
+    pub ghost long: { Long leader parity from to },
+    pub ghost down: { PointsDown leader },
+    pub ghost own: { OwnSide leader parity },
+}
+
+// What taking in a constraint came to. (An enum of its own: three cases without values, of each of which `Replied` promises something else.)
 #[derive(Drop)]
 pub enum Joining {
     // Its lines were in one group, as it wants them.
@@ -25,124 +40,128 @@ pub enum Joining {
     Joins,
 }
 
-// Each line leads itself. `kinds` has 1 at back lines and another byte at the others, whose parity is 2.
-pub fn start(lines: usize, kinds: &[u8; 2048], groups: &mut [u16; 8192])
-    requires { (lines ≤ 2048) × Pointing groups.old }
-    ensures { Pointing groups.new × Started lines kinds.now groups.new }
-{
-    let mut b = 0;
-    while b < lines {
-        let own = b as u16;
-        groups[LEADER + b] = own;
-        groups[PARITY + b] = alone(kinds[b]);
-        groups[FROM + b] = own;
-        groups[TO + b] = own;
-        b += 1;
-    }
-}
-
-// Takes in the constraint between the back lines b and d.
-pub fn join(b: usize, d: usize, kind: u8, groups: &mut [u16; 8192]) -> Joining
-    requires { Joinable b d groups.old }
-    ensures { Replied b d kind groups.old groups.new result }
-{
-    let one = look_up(b, groups);
-    let two = look_up(d, groups);
-    let turn = odd(one.turn, two.turn, kind);
-    if one.line == two.line {
-        if turn == 0 {
-            return Joining::Agrees;
-        }
-        return Joining::Conflicts;
-    }
-    if one.line < two.line {
-        point(one.line, two.line, turn, b, d, groups);
-        return Joining::Joins;
-    }
-    point(two.line, one.line, turn, b, d, groups);
-    Joining::Joins
-}
-
-// When all constraints are taken in: each line points to its leader, and its parity is against that one.
-pub fn flatten(lines: usize, groups: &mut [u16; 8192])
-    requires { (lines ≤ 2048) × Pointing groups.old }
-    ensures { Flattened lines groups.old groups.new }
-{
-    let mut b = 0;
-    while b < lines {
-        let after = b + 1;
-        let l = leader(groups, b);
-        if l != b {
-            pass(b, l, groups);
-        }
-        b = after;
-    }
-}
-
-// A number as an index.
-pub fn wide(x: u16) -> usize
-    ensures { Wide x result }
-{
-    x as usize
-}
-
-// 1 where the sum is odd, 0 where it is even.
-pub(crate) fn odd(x: u16, y: u16, kind: u8) -> u16
-    ensures { result ≡ (x + y + kind) % 2 }
-{
-    ((wide(x) + wide(y) + kind as usize) % 2) as u16
-}
-
-// The parity of a line by itself.
-fn alone(kind: u8) -> u16
-    ensures { BaseParity kind result }
-{
-    if kind == Kind::BACK {
-        return Side::LEFT as u16;
-    }
-    Side::TREE as u16
-}
-
 // A leader, and a line's turn against it.
 #[derive(Drop)]
 struct Lead {
     line: usize,
-    turn: u16,
+    turn: u8,
 }
 
-// Looks up the leader of b. On the way every second line is pointed past the one that it leads to, so that the next look has half the way.
-fn look_up(b: usize, groups: &mut [u16; 8192]) -> Lead
-    requires { (b < 2048) × Pointing groups.old }
-    ensures { LookedUp b groups.old groups.new result.line result.turn }
-{
-    let mut x = b;
-    let mut turn = 0;
-    let mut y = leader(groups, x);
-    while y != x {
-        pass(x, y, groups);
-        turn = odd(turn, groups[PARITY + x], Wants::SAME);
-        x = leader(groups, x);
-        y = leader(groups, x);
+impl Groups {
+    ghost use Rattle.groups.specs.Calls.{Started, Joinable, Passable, PassedBy, LookedUp, Mergeable, GivenOver, Replied, Flattened};
+
+    // A table of zeros: each line points to line 0.
+    pub fn blank() -> Groups
+        ensures leaders { result.leader ≡ replicate 2048 0 }
+        ensures parities { result.parity ≡ replicate 2048 0 }
+        ensures joinings { (result.from ≡ replicate 2048 0) × (result.to ≡ replicate 2048 0) }
+    {
+        Groups {
+            leader: [0; 2048],
+            parity: [0; 2048],
+            from: [0; 2048],
+            to: [0; 2048],
+        }
     }
-    Lead { line: x, turn }
+
+    // Each line leads itself. `kinds` has 1 at back lines and another byte at the others, whose parity is 2.
+    pub fn start(&mut self, lines: usize, kinds: &[u8; 2048])
+        requires { lines ≤ 2048 }
+        ensures { Started lines kinds.now self.new }
+    {
+        for b in 0..lines {
+            let own = b as u16;
+            self.leader[b] = own;
+            self.parity[b] = alone(kinds[b]);
+            self.from[b] = own;
+            self.to[b] = own;
+        }
+    }
+
+    // Takes in the constraint between the back lines b and d. (Its kind is a number, since `Replied` promises something of any number.)
+    pub fn join(&mut self, b: usize, d: usize, kind: u8) -> Joining
+        requires { Joinable b d }
+        ensures { Replied b d kind self.old self.new result }
+    {
+        let one = self.look_up(b);
+        let two = self.look_up(d);
+        let turn = odd(one.turn, two.turn, kind);
+        if one.line == two.line {
+            if turn == 0 {
+                return Joining::Agrees;
+            }
+            return Joining::Conflicts;
+        }
+        let low = one.line.min(two.line);
+        let high = one.line.max(two.line);
+        self.point(low, high, turn, b, d);
+        Joining::Joins
+    }
+
+    // When all constraints are taken in: each line points to its leader, and its parity is against that one.
+    pub fn flatten(&mut self, lines: usize)
+        requires { lines ≤ 2048 }
+        ensures { Flattened lines self.old self.new }
+    {
+        for b in 0..lines {
+            let l = self.leader[b] as usize;
+            if l != b {
+                self.pass(b, l);
+            }
+        }
+    }
+
+    // Looks up the leader of b. On the way every second line is pointed past the one that it leads to, so that the next look has half the way.
+    fn look_up(&mut self, b: usize) -> Lead
+        requires { b < 2048 }
+        ensures { LookedUp b self.old self.new result.line result.turn }
+    {
+        let mut x = b;
+        let mut turn = 0;
+        let mut y = self.leader[x] as usize;
+        while y != x {
+            self.pass(x, y);
+            turn = odd(turn, self.parity[x], Wants::Same as u8);
+            x = self.leader[x] as usize;
+            y = self.leader[x] as usize;
+        }
+        Lead { line: x, turn }
+    }
+
+    // Points x, which points to y, to where y points, with the turns added.
+    fn pass(&mut self, x: usize, y: usize)
+        requires { Passable x y self.old }
+        ensures { PassedBy x y self.old self.new }
+    {
+        self.leader[x] = self.leader[y];
+        self.parity[x] = odd(self.parity[x], self.parity[y], Wants::Same as u8);
+    }
+
+    // Gives the group of `high` to `low` by the constraint between b and d, which is noted.
+    fn point(&mut self, low: usize, high: usize, turn: u8, b: usize, d: usize)
+        requires { Mergeable low high b d self.old }
+        ensures { GivenOver low high turn b d self.old self.new }
+    {
+        self.leader[high] = low as u16;
+        self.parity[high] = turn;
+        self.from[high] = b as u16;
+        self.to[high] = d as u16;
+    }
 }
 
-// Points x, which points to y, to where y points, with the turns added.
-fn pass(x: usize, y: usize, groups: &mut [u16; 8192])
-    requires { Passable x y groups.old }
-    ensures { PassedBy x y groups.old groups.new }
+// 1 where the sum is odd, 0 where it is even.
+fn odd(x: u8, y: u8, kind: u8) -> u8
+    ensures { result ≡ (x + y + kind) % 2 }
 {
-    groups[LEADER + x] = groups[LEADER + y];
-    groups[PARITY + x] = odd(groups[PARITY + x], groups[PARITY + y], Wants::SAME);
+    ((x as u16 + y as u16 + kind as u16) % 2) as u8
 }
 
-// Gives the group of `high` to `low` by the constraint between b and d, which is noted.
-fn point(low: usize, high: usize, turn: u16, b: usize, d: usize, groups: &mut [u16; 8192])
-    requires { Mergeable low high b d groups.old }
-    ensures { GivenOver low high turn b d groups.old groups.new }
+// The parity of a line by itself. (Its kind is a byte: the table of kinds is what orient copies for C.)
+fn alone(kind: u8) -> u8
+    ensures { BaseParity kind result }
 {
-    groups[LEADER + high] = low as u16;
-    groups[PARITY + high] = turn;
-    groups[FROM + high] = b as u16;
-    groups[TO + high] = d as u16;
+    if kind == Kind::BACK {
+        return Side::LEFT;
+    }
+    Side::TREE
 }

@@ -1,6 +1,5 @@
 -- What is closed stays closed when two groups are joined. Lines with one leader go over together or stay together, and turn alike.
 -- And `Closed` is a congruence: a line with itself, turned round, put together with the kinds added.
-use mathlib.Core.List.{List}
 use mathlib.Core.Path.{refl, sym, ◌∙◌}
 use Prim.Native.Nat.{ℕ, ◌<◌}
 use native.Mathlib.Omega.{arith}
@@ -8,6 +7,7 @@ use Rattle.laws.proofs.Cases.{cases, eq_or}
 use Rattle.tree.specs.Tree.{Tree}
 use Rattle.groups.specs.Groups.{Tables}
 use Rattle.groups.specs.Calls.{Alike, Joined}
+use Rattle.groups.specs.declared.Groups.{Groups}
 use Rattle.links.specs.Inside.{Closed, StillClosed}
 
 -- A congruence
@@ -48,8 +48,8 @@ closed_joined j x y k hx hy c =
 
 -- Going on
 
-pub closed_same : (S : Tree) (g : List ℕ) → StillClosed S g g
+pub closed_same : (S : Tree) (g : Groups) → StillClosed S g g
 closed_same S g b d k hb hd c = c
 
-pub closed_after : (S : Tree) (g h i : List ℕ) → StillClosed S g h → StillClosed S h i → StillClosed S g i
+pub closed_after : (S : Tree) (g h i : Groups) → StillClosed S g h → StillClosed S h i → StillClosed S g i
 closed_after S g h i f e b d k hb hd c = e b d k hb hd (f b d k hb hd c)

@@ -1,11 +1,13 @@
 -- One link taken in. The tables are groups under the links that they obey; taking in one more keeps them so, and obeys it too, or shows that nothing
 -- can.
-use mathlib.Core.List.{List}
 use mathlib.Core.Logic.{inl, inr}
 use mathlib.Core.Path.{◌≡◌, refl, sym, ◌∙◌}
 use Prim.Native.Nat.{ℕ, ◌≤◌}
 use native.Mathlib.Omega.{arith}
+use Rattle.std.specs.Prelude.{Ok, Err}
 use Rattle.laws.proofs.Cases.{cases}
+use Rattle.side.specs.Sides.{code}
+use Rattle.side.specs.declared.Wants.{Wants}
 use Rattle.tree.specs.Tree.{Tree}
 use Rattle.tree.specs.Returns.{backb}
 use Rattle.fork.specs.Link.{Link}
@@ -14,12 +16,12 @@ use Rattle.fork.proofs.Links.{link_ends}
 use Rattle.groups.specs.Constraints.{Constraints, More, Sided}
 use Rattle.groups.specs.Groups.{Tables, Grouped, pointed}
 use Rattle.groups.specs.Calls.{Alike, Joinable, Replied, JoiningGives}
+use Rattle.groups.specs.declared.Groups.{Groups}
 use Rattle.groups.specs.declared.Joining.{Joining}
 use Rattle.groups.specs.declared.Joining.TheVariants.{Agrees, Conflicts, Joins}
-use Rattle.groups.proofs.Groups.{None}
+use Rattle.groups.proofs.Grouped.{None}
 use Rattle.groups.proofs.Alike.{after_agreeing, after_joining, grouped_alike}
 use Rattle.links.specs.Inside.{Closed, Taken, Together, Unkept, Outcome, obeyed, unkept, Tieable}
-use Rattle.links.specs.declared.Tie.TheVariants.{Holds, Tears}
 use Rattle.links.proofs.Closing.{closed_alike, closed_joined}
 
 module _ (S : Tree) where
@@ -66,12 +68,15 @@ module _ (S : Tree) where
   pub none_together : (t : Tables) → Grouped S.lines (backb S) None t → Together S t
   none_together t g = widen None t g (λ b d k x. absurd x)
 
-pub take_joinable : {S : Tree} {b d k : ℕ} {g : List ℕ} → Tieable S b d k g → Joinable b d g
+pub take_joinable : {S : Tree} {b d k : ℕ} {g : Groups} → Tieable S b d k g → Joinable b d
 take_joinable {S} t =
     let e = link_sided S t.link in
-    record { first = omega (arith, e.0.within, t.sound.few); second = omega (arith, e.1.within, t.sound.few); pointing = t.sound.pointing }
+    record { first = omega (arith, e.0.within, t.sound.few); second = omega (arith, e.1.within, t.sound.few) }
 
-module _ (S : Tree) (b d k : ℕ) (g g' : List ℕ) (t : Tieable S b d k g) where
+module _ (S : Tree) (b d : ℕ) (wants : Wants) (g g' : Groups) (t : Tieable S b d (code wants) g) where
+  abbrev k : ℕ
+  k = code wants
+
   few : S.lines ≤ 2048
   few = t.sound.few
 
@@ -90,20 +95,20 @@ module _ (S : Tree) (b d k : ℕ) (g g' : List ℕ) (t : Tieable S b d k g) wher
     (let c = q.closed b d k (inr (refl, refl, refl)) in record { together = c.0; even = c.1 }),
   )
 
-  pub take_agreed : (r : Joining) → Replied b d k g g' r → r ≡ Agrees → Outcome S g g' (Closed (pointed g') b d k) Holds
+  pub take_agreed : (r : Joining) → Replied b d k g g' r → r ≡ Agrees → Outcome S g g' (Closed (pointed g') b d k) (Ok tt)
   take_agreed r a e =
       let j : JoiningGives b d k (pointed g) (pointed g') Agrees = rw e at a.answer in
       let s = sound_more (after_agreeing S.lines (backb S) (Taken S (pointed g)) b d k b_side d_side few (pointed g) (pointed g') t.sound.together j) in
-      obeyed (record { few = few; pointing = a.pointing; together = s.0 }) (λ x y z hx hy c. let f = few in closed_alike j.2 x y z (omega arith) (omega arith) c) s.1
+      obeyed (record { few = few; together = s.0 }) (λ x y z hx hy c. let f = few in closed_alike j.2 x y z (omega arith) (omega arith) c) s.1
 
-  pub take_joined : (r : Joining) → Replied b d k g g' r → r ≡ Joins → Outcome S g g' (Closed (pointed g') b d k) Holds
+  pub take_joined : (r : Joining) → Replied b d k g g' r → r ≡ Joins → Outcome S g g' (Closed (pointed g') b d k) (Ok tt)
   take_joined r a e =
       let j : JoiningGives b d k (pointed g) (pointed g') Joins = rw e at a.answer in
       let s = sound_more (after_joining S.lines (backb S) (Taken S (pointed g)) b d k b_side d_side few (pointed g) (pointed g') t.sound.together t.small j) in
-      obeyed (record { few = few; pointing = a.pointing; together = s.0 }) (λ x y z hx hy c. let f = few in closed_joined j x y z (omega arith) (omega arith) c) s.1
+      obeyed (record { few = few; together = s.0 }) (λ x y z hx hy c. let f = few in closed_joined j x y z (omega arith) (omega arith) c) s.1
 
-  pub take_torn : (r : Joining) → Replied b d k g g' r → r ≡ Conflicts → Outcome S g g' (Closed (pointed g') b d k) (Tears b d k)
+  pub take_torn : (r : Joining) → Replied b d k g g' r → r ≡ Conflicts → Outcome S g g' (Closed (pointed g') b d k) (Err (record { one = b; two = d; wants = wants }))
   take_torn r a e =
       let j : JoiningGives b d k (pointed g) (pointed g') Conflicts = rw e at a.answer in
-      unkept (record { few = few; pointing = a.pointing; together = together_alike S few j.2 t.sound.together })
+      unkept (record { few = few; together = together_alike S few j.2 t.sound.together })
       (unkept_alike S few j.2 (record { link = t.link; together = j.0; odd = j.1 }))

@@ -3,29 +3,36 @@
 // The two walks find the links; here one of them is tied. The contract cites specs/Inside.antt.
 #![tactic(auto)]
 
-ghost use Rattle.std.specs.Prelude.{ℕ};
+ghost use Rattle.side.specs.Sides.{code};
 ghost use Rattle.groups.specs.Groups.{pointed};
-ghost use Rattle.fork.specs.Inside.{SomeTree, EachTree};
+ghost use Rattle.tree.specs.Tree.{Tree};
 ghost use Rattle.links.specs.Inside.{Closed, Tieable, Outcome};
 
-use groups::Joining;
+use groups::{Groups, Joining};
+use side::Wants;
 
-// What taking in links came to: all are obeyed, or the one between two lines, of a kind, can't be.
-#[derive(Drop)]
-pub enum Tie {
-    Holds,
-    Tears(usize, usize, u8),
+// The link that can't be obeyed: between two lines, of a kind.
+#[derive(Clone, Copy)]
+pub struct Tear {
+    pub one: usize,
+    pub two: usize,
+    pub wants: Wants,
 }
 
 // Takes in the link between the back lines b and d.
-pub fn take(b: usize, d: usize, kind: u8, groups: &mut [u16; 8192]) -> Tie
-    requires { SomeTree (λ S. Tieable S b d kind groups.old) }
-    ensures { EachTree (λ S. Tieable S b d kind groups.old)
-        (λ S. Outcome S groups.old groups.new (Closed (pointed groups.new) b d kind) result) }
+pub fn take(b: usize, d: usize, kind: Wants, groups: &mut Groups) -> Result<(), Tear>
+    ghost S: { Tree }
+    requires { Tieable S b d (code kind) groups.old }
+    ensures { Outcome S groups.old groups.new (Closed (pointed groups.new) b d (code kind)) result }
 {
-    match groups::join(b, d, kind, groups) {
-        Joining::Agrees => Tie::Holds,
-        Joining::Joins => Tie::Holds,
-        Joining::Conflicts => Tie::Tears(b, d, kind),
+    let tear = Tear {
+        one: b,
+        two: d,
+        wants: kind,
+    };
+    match groups.join(b, d, u8::from(kind)) {
+        Joining::Agrees => Ok(()),
+        Joining::Joins => Ok(()),
+        Joining::Conflicts => Err(tear),
     }
 }
