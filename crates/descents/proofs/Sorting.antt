@@ -2,6 +2,7 @@
 use mathlib.Core.Path.{◌≡◌}
 use Prim.Native.Nat.{ℕ, ◌≤◌}
 use native.Mathlib.Omega.{arith}
+use Rattle.std.specs.Prelude.{Result, ⊤}
 use Rattle.laws.proofs.Cases.{cases}
 use Rattle.tree.specs.Tree.{Tree}
 use Rattle.tree.specs.Words.{TreeLine}
@@ -14,7 +15,7 @@ use Rattle.fork.proofs.Rule.{fork_turned}
 use Rattle.groups.specs.Groups.{Tables}
 use Rattle.groups.specs.Calls.{Alike}
 use Rattle.links.specs.Inside.{Closed}
-use Rattle.links.specs.declared.Tie.{Tie}
+use Rattle.links.specs.declared.Tear.{Tear}
 use Rattle.links.proofs.Closing.{closed_turned, closed_alike}
 use Rattle.links.proofs.Tying.{together_alike, unkept_alike}
 use Rattle.descents.specs.Inside.{Sorted, all_kept, one_torn}
@@ -36,7 +37,7 @@ module _ (S : Tree) (X : Searched S) (t : Tables)
 
 -- Flat tables
 
-pub sorted_alike : (S : Tree) {n : ℕ} {t t' : Tables} {r : Tie} → S.lines ≤ n → Alike n t t' → Sorted S t r → Sorted S t' r
+pub sorted_alike : (S : Tree) {n : ℕ} {t t' : Tables} {r : Result ⊤ Tear} → S.lines ≤ n → Alike n t t' → Sorted S t r → Sorted S t' r
 sorted_alike S few a (all_kept g c) =
     all_kept (together_alike S few a g)
     (λ b d k l. let e = link_ends S l in closed_alike a b d k (omega (arith, e.0.0.below)) (omega (arith, e.1.0.below)) (c b d k l))

@@ -5,13 +5,16 @@
 // lines that overlap at a fork (`falling`). Between them come the lows and the rivals, which the first makes known and the second goes by (`lows`).
 #![tactic(auto)]
 
-ghost use Rattle.std.specs.Prelude.{◌≡◌, ℕ, length};
-ghost use Rattle.tree.specs.Tree.{tree_of};
-ghost use Rattle.fork.specs.Inside.{Known, SomeTree, EachTree};
-ghost use Rattle.descents.specs.Inside.{Lent, Walkable, Tied, Grouping};
+ghost use Rattle.std.specs.Prelude.{◌≡◌};
+ghost use Rattle.tree.specs.Tree.{Tree, tree_of};
+ghost use Rattle.fork.specs.Inside.{Known, Long};
+ghost use Rattle.descents.specs.Inside.{Walkable, Tied, Grouping};
 
-use links::Tie;
+use fork::Forks;
+use groups::Groups;
+use links::Tear;
 use network::Absent;
+use spans::Jumps;
 
 // Groups the back lines of the tree of a finished search, and fills the table of forks. (Where a link tears, nothing is said of that table.)
 pub fn group(
@@ -21,19 +24,20 @@ pub fn group(
     kinds: &[u8; 2048],
     heights: &[u16; 512],
     parents: &[u16; 512],
-    forks: &mut [u16; 10240],
-    groups: &mut [u16; 8192],
-) -> Tie
+    forks: &mut Forks,
+    groups: &mut Groups,
+) -> Result<(), Tear>
+    ghost S: { Tree }
+    requires tree { S ≡ tree_of vertices lines ends.now kinds.now heights.now parents.now }
     requires known { Known vertices lines ends.now kinds.now heights.now parents.now }
-    requires lent { Lent forks.old groups.old }
-    ensures { Grouping (tree_of vertices lines ends.now kinds.now heights.now parents.now)
-        forks.new groups.new result }
+    requires lent { Long forks.old }
+    ensures { Grouping S forks.new groups.new result }
 {
     spans::span(lines, ends, kinds, heights, forks);
-    groups::start(lines, kinds, groups);
-    let tie = walk(vertices, lines, heights, parents, forks, groups);
-    groups::flatten(lines, groups);
-    tie
+    groups.start(lines, kinds);
+    let outcome = walk(vertices, lines, heights, parents, forks, groups);
+    groups.flatten(lines);
+    outcome
 }
 
 // The two walks.
@@ -42,36 +46,33 @@ fn walk(
     lines: usize,
     heights: &[u16; 512],
     parents: &[u16; 512],
-    forks: &mut [u16; 10240],
-    groups: &mut [u16; 8192],
-) -> Tie
-    requires { SomeTree (λ S. Walkable S vertices lines heights.now parents.now forks.old groups.old) }
-    ensures { EachTree (λ S. Walkable S vertices lines heights.now parents.now forks.old groups.old)
-        (λ S. Tied S forks.new groups.new result) }
+    forks: &mut Forks,
+    groups: &mut Groups,
+) -> Result<(), Tear>
+    ghost S: { Tree }
+    requires { Walkable S vertices lines heights.now parents.now forks.old groups.old }
+    ensures { Tied S forks.new groups.new result }
 {
-    let none = lines as u16;
-    let mut heads = [none; 513];
-    let mut nexts = [none; 2048];
-    let mut jumps = [Absent::ENTRY; 1536];
+    let mut jumps = Jumps {
+        onward: [Absent::ENTRY; 512],
+        least: [Absent::ENTRY; 512],
+        held: [Absent::ENTRY; 512],
+    };
     let mut bottoms = [Absent::ENTRY; 512];
-    spans::chain(lines, forks, &mut heads, &mut nexts);
+    let chains = spans::chain(lines, forks);
     spans::lower(vertices, heights, parents, forks, &mut jumps);
-    match rising::rise(
+    rising::rise(
         vertices,
         heights,
         &jumps,
-        &heads,
-        &nexts,
+        &chains,
         forks,
         &mut bottoms,
         groups,
-    ) {
-        Tie::Holds => {}
-        Tie::Tears(b, d, kind) => return Tie::Tears(b, d, kind),
-    }
+    )?;
     lows::measure(vertices, heights, parents, &bottoms, forks);
     lows::rivals(vertices, lines, heights, parents, forks, &mut jumps);
     falling::fall(
-        vertices, heights, parents, &heads, &nexts, &mut jumps, forks, groups,
+        vertices, heights, parents, &chains, &mut jumps, forks, groups,
     )
 }

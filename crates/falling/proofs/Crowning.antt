@@ -2,12 +2,13 @@
 -- height are written down; with its own top it is a stretch of one.
 use mathlib.Core.Bool.{false}
 use mathlib.Core.List.{List}
-use mathlib.Core.Logic.{◌⊎◌, inl, inr, ◌≢◌}
+use mathlib.Core.Logic.{◌⊎◌, inl, inr}
 use mathlib.Core.Path.{◌≡◌, refl, sym, ◌∙◌, ap, subst}
-use Prim.Native.Nat.{ℕ, suc, ◌+◌, ◌<◌}
+use Prim.Native.Nat.{ℕ, suc, ◌<◌}
 use native.Mathlib.Omega.{arith}
-use lib.ListN.{length, set, length-set}
+use lib.ListN.{set, length-set}
 use lib.Seq.{get_or-set_same, get_or-set_other}
+use Rattle.std.specs.Prelude.{Ok}
 use Rattle.laws.specs.Lists.{at}
 use Rattle.laws.proofs.Cases.{cases, eq_or, lt_or, true_false}
 use Rattle.network.specs.Marks.{absent}
@@ -21,32 +22,22 @@ use Rattle.fork.specs.Link.{Overlap}
 use Rattle.fork.proofs.Found.{way_only}
 use Rattle.fork.proofs.Links.{overlap_turned}
 use Rattle.groups.specs.Groups.{pointed}
+use Rattle.groups.specs.declared.Groups.{Groups}
 use Rattle.links.specs.Inside.{Closed, Outcome, obeyed}
-use Rattle.links.specs.declared.Tie.{Tie}
-use Rattle.links.specs.declared.Tie.TheVariants.{Holds}
 use Rattle.links.proofs.Closing.{closed_self, closed_same}
 use Rattle.meeting.specs.Inside.{Met, KeptAt, ApartAt, Arriving, Meeting, MetApart, Inserted, Insertable}
 use Rattle.meeting.proofs.Keeping.{Newly, kept_more, kept_elsewhere}
 use Rattle.meeting.proofs.Staying.{apart_more, apart_elsewhere}
 use Rattle.meeting.proofs.Overlapping.{back_overlaps_none}
-use Rattle.falling.specs.Down.{FallsBefore, Overtook, Worn, Bare, Joint, Stretch, IdleJump, Segment, Midway, Landing, Passed, Crowned, Markable}
+use Rattle.fork.specs.declared.Forks.{Forks}
+use Rattle.spans.specs.declared.Jumps.{Jumps}
+use Rattle.meeting.specs.declared.Pairs.{Pairs}
+use Rattle.falling.specs.Down.{FallsBefore, Overtook, Worn, Bare, Joint, Stretch, IdleJump, Segment, Midway, Landing, Passed, Crowned}
 use Rattle.falling.proofs.Stretching.{topped}
 use Rattle.falling.proofs.Overtaking.{first_is_top, landing_tied, v_line, v_up}
 
--- Stores
-
--- two places of a table, and one
-module _ (t : List ℕ) (i j a c : ℕ) (apart : i ≡ j → ⊥) (hi : i < length t) (hj : j < length t) where
-  pub two_first : at (set (set t i a) j c) i ≡ a
-  two_first = get_or-set_other (set t i a) j i c 0 apart ∙ get_or-set_same t i a 0 hi
-
-  pub two_second : at (set (set t i a) j c) j ≡ c
-  two_second = get_or-set_same (set t i a) j c 0 (omega (arith, length-set t i a))
-
-pub two_rest : (t : List ℕ) (i j a c k : ℕ) → (k ≡ i → ⊥) → (k ≡ j → ⊥) → at (set (set t i a) j c) k ≡ at t k
-two_rest t i j a c k d e = get_or-set_other (set t i a) j k c 0 e ∙ get_or-set_other t i k a 0 d
-
-module _ {S : Tree} {b x v : ℕ} {parents jumps pairs forks g : List ℕ} (P : Landing S b x v parents jumps pairs forks g) (free : at jumps (1024 + v) ≡ absent) where
+module _ {S : Tree} {b x v : ℕ} {parents : List ℕ} {jumps : Jumps} {pairs : Pairs} {forks : Forks} {g : Groups}
+    (P : Landing S b x v parents jumps pairs forks g) (free : at jumps.held v ≡ absent) where
   F : Midway S x b (S.height v) (suc b) jumps pairs forks g
   F = P.state
 
@@ -57,9 +48,9 @@ module _ {S : Tree} {b x v : ℕ} {parents jumps pairs forks g : List ℕ} (P : 
   f = S.parent v
 
   abbrev u : ℕ
-  u = at jumps (0 + v)
+  u = at jumps.onward v
 
-  fresh : IdleJump S forks v (at jumps (0 + v)) (at jumps (512 + v)) (at jumps (1024 + v))
+  fresh : IdleJump S forks v (at jumps.onward v) (at jumps.least v) (at jumps.held v)
   fresh =
       cases (F.segments v P.inside (omega (arith, P.over)))
       (λ z. z)
@@ -105,39 +96,30 @@ module _ {S : Tree} {b x v : ℕ} {parents jumps pairs forks g : List ℕ} (P : 
 
   -- The tables after
 
-  module _ (apart : MetApart S b x (low S f) u forks g) {pairs' forks' jumps' : List ℕ} (I : Inserted b (low S f) u pairs pairs') (C : Crowned b x f v forks forks' jumps jumps') where
-    f_small : f < 2048
-    f_small = omega (arith, (v_line P).0.0.below, F.finished.few_lines)
+  abbrev forks' : Forks
+  forks' = record forks { high = set forks.high f x; top = set forks.top f b }
 
-    v_small : v < 512
-    v_small = omega (arith, P.inside, F.finished.few_vertices)
+  abbrev jumps' : Jumps
+  jumps' = record jumps { held = set jumps.held v b }
 
-    top_at : at forks' (8192 + f) ≡ b
-    top_at =
-        let i = f_small in
-        ap (λ (t : List ℕ). at t (8192 + f)) C.forks_are
-        ∙ two_first forks (8192 + f) (6144 + f) b x (λ e. omega arith) (omega (arith, F.spans.long)) (omega (arith, F.spans.long))
+  module _ (apart : MetApart S b x (low S f) u forks g) {pairs' : Pairs} (I : Inserted b (low S f) u pairs pairs') where
+    top_at : at forks'.top f ≡ b
+    top_at = get_or-set_same forks.top f b 0 (omega (arith, (v_line P).0.0.below, F.finished.few_lines, F.spans.long.tops))
 
-    high_at : at forks' (6144 + f) ≡ x
-    high_at =
-        let i = f_small in
-        ap (λ (t : List ℕ). at t (6144 + f)) C.forks_are
-        ∙ two_second forks (8192 + f) (6144 + f) b x (λ e. omega arith) (omega (arith, F.spans.long)) (omega (arith, F.spans.long))
+    high_at : at forks'.high f ≡ x
+    high_at = get_or-set_same forks.high f x 0 (omega (arith, (v_line P).0.0.below, F.finished.few_lines, F.spans.long.highs))
 
-    rest : (j : ℕ) → (j ≡ 8192 + f → ⊥) → (j ≡ 6144 + f → ⊥) → at forks' j ≡ at forks j
-    rest j d e = ap (λ (t : List ℕ). at t j) C.forks_are ∙ two_rest forks (8192 + f) (6144 + f) b x j d e
+    top_rest : (k : ℕ) → (k ≡ f → ⊥) → at forks'.top k ≡ at forks.top k
+    top_rest k d = get_or-set_other forks.top f k b 0 d
 
-    top_rest : (k : ℕ) → (k ≡ f → ⊥) → at forks' (8192 + k) ≡ at forks (8192 + k)
-    top_rest k d = let d' : k ≢ f = d in let i = f_small in rest (8192 + k) (λ e. omega arith) (λ e. omega arith)
+    high_rest : (k : ℕ) → (k ≡ f → ⊥) → at forks'.high k ≡ at forks.high k
+    high_rest k d = get_or-set_other forks.high f k x 0 d
 
-    high_rest : (k : ℕ) → k < 2048 → (k ≡ f → ⊥) → at forks' (6144 + k) ≡ at forks (6144 + k)
-    high_rest k h d = let d' : k ≢ f = d in let i = f_small in rest (6144 + k) (λ e. omega arith) (λ e. omega arith)
+    held_at : at jumps'.held v ≡ b
+    held_at = get_or-set_same jumps.held v b 0 (omega (arith, P.inside, F.finished.few_vertices, F.jumps_long.helds))
 
-    held_at : at jumps' (1024 + v) ≡ b
-    held_at = let i = v_small in ap (λ (t : List ℕ). at t (1024 + v)) C.jumps_are ∙ get_or-set_same jumps (1024 + v) b 0 (omega (arith, F.jumps_long))
-
-    jumps_rest : (j : ℕ) → (j ≡ 1024 + v → ⊥) → at jumps' j ≡ at jumps j
-    jumps_rest j d = ap (λ (t : List ℕ). at t j) C.jumps_are ∙ get_or-set_other jumps (1024 + v) j b 0 d
+    held_rest : (w : ℕ) → (w ≡ v → ⊥) → at jumps'.held w ≡ at jumps.held w
+    held_rest w d = get_or-set_other jumps.held v w b 0 d
 
     met_here : Met S forks' f
     met_here = ((v_line P).0, omega (arith, top_at, P.back_line.0.below))
@@ -165,11 +147,10 @@ module _ {S : Tree} {b x v : ℕ} {parents jumps pairs forks g : List ℕ} (P : 
         }
 
     -- the line alone
-    alone : Stretch S x forks' g v (at jumps' (0 + v)) (at jumps' (512 + v)) (at jumps' (1024 + v))
+    alone : Stretch S x forks' g v u (at jumps.least v) (at jumps'.held v)
     alone =
-        let i = v_small in
         let s = below_v in
-        rw (jumps_rest (0 + v) (λ e. omega arith), jumps_rest (512 + v) (λ e. omega arith), held_at)
+        rw held_at
         (record {
           inside = u_in;
           below = rw fresh.next (subst (λ (y : ℕ). Above S (S.source f) y) (X.parent v P.inside (omega (arith, P.over))).1 (X.above_line f (v_line P).0));
@@ -177,7 +158,7 @@ module _ {S : Tree} {b x v : ℕ} {parents jumps pairs forks g : List ℕ} (P : 
           line = P.back_line.0.below;
           each = λ w j a q.
               let e : w ≡ v = X.above_level w v v a (X.above_self v) (omega (arith, X.above_height w v a)) in
-              subst (λ (y : ℕ). Joint S x forks' g (at jumps (512 + v)) b y) (sym e)
+              subst (λ (y : ℕ). Joint S x forks' g (at jumps.least v) b y) (sym e)
               (record {
                 met = met_here;
                 no_less = omega (arith, fresh.rival_is);
@@ -224,10 +205,7 @@ module _ {S : Tree} {b x v : ℕ} {parents jumps pairs forks g : List ℕ} (P : 
         cases (eq_or w v)
         (λ e. subst (λ (y : ℕ). Segment S x jumps' forks' g y) (sym e) (inr alone))
         (λ d.
-        let d' : w ≢ v = d in
-        let few = F.finished.few_vertices in
-        let s = v_small in
-        rw (jumps_rest (0 + w) (λ e. omega arith), jumps_rest (512 + w) (λ e. omega arith), jumps_rest (1024 + w) (λ e. omega arith))
+        rw (held_rest w d)
         (cases (F.segments w i q) (λ z. inl (fresh_still i q d z)) (λ z. inr (stretch_still z))))
 
     -- what b has passed now it had passed before, or it is f
@@ -253,19 +231,18 @@ module _ {S : Tree} {b x v : ℕ} {parents jumps pairs forks g : List ℕ} (P : 
           past = inr (crown.0, omega (arith, v_up P));
         })))
         (λ d.
-        let few = F.finished.few_lines in
         cases (F.crowns k l)
         (λ w.
         inl (record {
           named = top_rest k d ∙ w.named;
-          height = high_rest k (omega (arith, l.0.below)) d ∙ w.height;
+          height = high_rest k d ∙ w.height;
           return = w.return;
           past = cases w.past (λ q. inl q) (λ q. inr (q.0, omega (arith, q.1)));
         }))
         (λ n.
         inr (record {
           unnamed = top_rest k d ∙ n.unnamed;
-          height = high_rest k (omega (arith, l.0.below)) d ∙ n.height;
+          height = high_rest k d ∙ n.height;
           unpassed = λ c r p. cases (newly k c l r p) (λ q. n.unpassed c r q) (λ q. d q.1);
         })))
 
@@ -284,20 +261,28 @@ module _ {S : Tree} {b x v : ℕ} {parents jumps pairs forks g : List ℕ} (P : 
 
     pub state_crowned : Midway S x b (S.height u) (suc b) jumps' pairs' forks' g
     state_crowned =
-        let few = F.finished.few_lines in
-        let i = f_small in
         record {
           finished = F.finished;
           spans = record {
-            long = ap length C.forks_are ∙ length-set (set forks (8192 + f) b) (6144 + f) x ∙ length-set forks (8192 + f) b ∙ F.spans.long;
-            sources = λ k h. rest (0 + k) (λ e. omega arith) (λ e. omega arith) ∙ F.spans.sources k h;
-            stops = λ k l. rest (2048 + k) (λ e. omega (arith, l.0.below)) (λ e. omega (arith, l.0.below)) ∙ F.spans.stops k l;
-            no_stops = λ k l. rest (2048 + k) (λ e. omega (arith, l.0.below)) (λ e. omega (arith, l.0.below)) ∙ F.spans.no_stops k l;
+            long = record {
+              sources = F.spans.long.sources;
+              stops = F.spans.long.stops;
+              lows = F.spans.long.lows;
+              highs = length-set forks.high f x ∙ F.spans.long.highs;
+              tops = length-set forks.top f b ∙ F.spans.long.tops;
+            };
+            sources = F.spans.sources;
+            stops = F.spans.stops;
+            no_stops = F.spans.no_stops;
           };
-          lows = record { each = λ k h. rest (4096 + k) (λ e. omega arith) (λ e. omega arith) ∙ F.lows.each k h };
-          jumps_long = ap length C.jumps_are ∙ length-set jumps (1024 + v) b ∙ F.jumps_long;
+          lows = record { each = F.lows.each };
+          jumps_long = record {
+            onwards = F.jumps_long.onwards;
+            leasts = F.jumps_long.leasts;
+            helds = length-set jumps.held v b ∙ F.jumps_long.helds;
+          };
           pairs_long = I.long;
-          back_highs = λ c l. high_rest c (omega (arith, l.0.below)) (back_not c l) ∙ F.back_highs c l;
+          back_highs = λ c l. high_rest c (back_not c l) ∙ F.back_highs c l;
           back_tops = λ c l. top_rest c (back_not c l) ∙ F.back_tops c l;
           crowns = crowned;
           segments = segment;
@@ -320,50 +305,34 @@ module _ {S : Tree} {b x v : ℕ} {parents jumps pairs forks g : List ℕ} (P : 
         back_not : (c : ℕ) → BackLine S c → c ≡ f → ⊥
         back_not c l e = true_false (v_line P).0.1 (subst (λ (y : ℕ). S.tree y ≡ false) e l.1)
 
-  -- In the code's terms: f' is the line up to v, u' the vertex that it leaves
+  -- In the code's terms: f' is the line up to v
 
-  module _ {f' u' : ℕ} (is_f : (f' ≡ at parents v) × (f' < 65536)) (is_u : (u' ≡ at jumps (0 + v)) × (u' < 65536)) where
-    f_is : f' ≡ f
-    f_is = is_f.0 ∙ P.each_parent.each v P.inside
+  abbrev f' : ℕ
+  f' = at parents v
 
-    low_is : at forks (4096 + f') ≡ low S f
-    low_is = ap (λ (k : ℕ). at forks (4096 + k)) f_is ∙ F.lows.each f (v_line P).0.0.below
+  f_is : f' ≡ f
+  f_is = P.each_parent.each v P.inside
 
-    pub crown_meets : Meeting S b x (at forks (4096 + f')) u' forks pairs g
-    crown_meets = rw (low_is, is_u.0) crown_meeting
+  low_is : at forks.low f' ≡ low S f
+  low_is = ap (at forks.low) f_is ∙ F.lows.each f (v_line P).0.0.below
 
-    pub crown_keeps : Insertable b (at forks (4096 + f')) u' pairs
-    crown_keeps = rw (low_is, is_u.0) crown_insertable
+  pub crown_meets : Meeting S b x (at forks.low f') u forks pairs g
+  crown_meets = rw low_is crown_meeting
 
-    pub crown_marks : Markable b f' v forks jumps
-    crown_marks =
-        record {
-          top = omega (arith, P.back_line.0.below, F.finished.few_lines);
-          line = let e = f_is in omega (arith, (v_line P).0.0.below, F.finished.few_lines);
-          vertex = omega (arith, P.inside, F.finished.few_vertices);
-          forks_long = F.spans.long;
-          jumps_long = F.jumps_long;
-        }
+  pub crown_keeps : Insertable b (at forks.low f') u pairs
+  crown_keeps = rw low_is crown_insertable
 
-    crown_end : MetApart S b x (at forks (4096 + f')) u' forks g → {pairs' forks' jumps' : List ℕ} → Inserted b (at forks (4096 + f')) u' pairs pairs'
-        → Crowned b x f' v forks forks' jumps jumps' → Passed S b x v jumps jumps' pairs' forks' g
-    crown_end m {pairs'} {forks'} {jumps'} i c =
-        let m' : MetApart S b x (low S f) u forks g = rw (low_is, is_u.0) at m in
-        let i' : Inserted b (low S f) u pairs pairs' = rw (low_is, is_u.0) at i in
-        let c' : Crowned b x f v forks forks' jumps jumps' = subst (λ (y : ℕ). Crowned b x y v forks forks' jumps jumps') f_is c in
-        record {
-          state = state_crowned m' i' c';
-          onwards = λ w h. let z = v_small m' i' c' in jumps_rest m' i' c' (0 + w) (λ e. omega arith);
-        }
+  crown_end : MetApart S b x (at forks.low f') u forks g → {pairs' : Pairs} → Inserted b (at forks.low f') u pairs pairs' → {forks'' : Forks} {jumps'' : Jumps}
+      → Crowned b x f' v forks forks'' jumps jumps'' → Passed S b x v jumps jumps'' pairs' forks'' g
+  crown_end m {pairs'} i {forks''} {jumps''} c =
+      let m' : MetApart S b x (low S f) u forks g = rw low_is at m in
+      let i' : Inserted b (low S f) u pairs pairs' = rw low_is at i in
+      let c' : Crowned b x f v forks forks'' jumps jumps'' = subst (λ (y : ℕ). Crowned b x y v forks forks'' jumps jumps'') f_is c in
+      rw (c'.forks_are, c'.jumps_are) (record { state = state_crowned m' i'; onwards = λ w h. refl })
 
-pub parent_small : {S : Tree} {b x v : ℕ} {parents jumps pairs forks g : List ℕ} → Landing S b x v parents jumps pairs forks g → at parents v < 2048
-parent_small {S} {b} {x} {v} P = let e = P.each_parent.each v P.inside in omega (arith, (v_line P).0.0.below, P.state.finished.few_lines)
-
-pub crown_done : {S : Tree} {b x v f u : ℕ} {parents jumps pairs forks g g' pairs' forks' jumps' : List ℕ} {q : Tie} → Landing S b x v parents jumps pairs forks g
-    → at jumps (1024 + v) ≡ absent → (f ≡ at parents v) × (f < 65536) → (u ≡ at jumps (0 + v)) × (u < 65536)
-    → Outcome S g g' (MetApart S b x (at forks (4096 + f)) u forks g') q → q ≡ Holds → Inserted b (at forks (4096 + f)) u pairs pairs'
-    → Crowned b x f v forks forks' jumps jumps' → Outcome S g g' (Passed S b x v jumps jumps' pairs' forks' g') Holds
-crown_done {S} {b} {x} {v} {f} {u} {parents} {jumps} {pairs} {forks} {g} {g'} {pairs'} {forks'} {jumps'} {q} P free is_f is_u m e i c = go (rw e at m)
-  where
-    go : Outcome S g g' (MetApart S b x (at forks (4096 + f)) u forks g') Holds → Outcome S g g' (Passed S b x v jumps jumps' pairs' forks' g') Holds
-    go (obeyed s on a) = obeyed s on (crown_end (landing_tied P s on) free is_f is_u a i c)
+pub crown_done : {S : Tree} {b x v : ℕ} {parents : List ℕ} {jumps jumps' : Jumps} {pairs pairs' : Pairs} {forks forks' : Forks} {g g' : Groups}
+    → Landing S b x v parents jumps pairs forks g
+    → at jumps.held v ≡ absent → Outcome S g g' (MetApart S b x (at forks.low (at parents v)) (at jumps.onward v) forks g') (Ok tt)
+    → Inserted b (at forks.low (at parents v)) (at jumps.onward v) pairs pairs' → Crowned b x (at parents v) v forks forks' jumps jumps'
+    → Outcome S g g' (Passed S b x v jumps jumps' pairs' forks' g') (Ok tt)
+crown_done P free (obeyed s on a) i c = obeyed s on (crown_end (landing_tied P s on) free a i c)

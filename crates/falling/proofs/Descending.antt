@@ -5,6 +5,7 @@ use mathlib.Core.Logic.{◌⊎◌, inl, inr, ◌≢◌}
 use mathlib.Core.Path.{◌≡◌, refl, sym, ◌∙◌, ap, subst}
 use Prim.Native.Nat.{ℕ, suc, ◌+◌, ◌≤◌, ◌<◌}
 use native.Mathlib.Omega.{arith}
+use Rattle.std.specs.Prelude.{Ok}
 use Rattle.laws.specs.Lists.{at}
 use Rattle.laws.proofs.Cases.{cases, eq_or}
 use Rattle.tree.specs.Tree.{Tree}
@@ -14,31 +15,32 @@ use Rattle.tree.specs.Searched.{Searched}
 use Rattle.tree.proofs.Returns.{return_self}
 use Rattle.fork.specs.Ends.{top}
 use Rattle.fork.specs.Link.{Overlap}
-use Rattle.fork.specs.Inside.{Named}
 use Rattle.fork.proofs.Ends.{top_back}
 use Rattle.fork.proofs.Found.{way_high, way_low}
 use Rattle.fork.proofs.Links.{low_back, high_back}
 use Rattle.groups.specs.Groups.{pointed}
-use Rattle.links.specs.Inside.{Closed, Sound, StillClosed, Outcome, obeyed}
-use Rattle.links.specs.declared.Tie.TheVariants.{Holds}
+use Rattle.groups.specs.declared.Groups.{Groups}
+use Rattle.links.specs.Inside.{Closed, StillClosed, Outcome, obeyed}
 use Rattle.links.proofs.Closing.{closed_same, closed_after}
+use Rattle.links.proofs.Outcomes.{holds_of}
 use Rattle.laws.proofs.Cases.{true_false}
 use Rattle.meeting.specs.Inside.{Arriving, Meeting, MetApart}
-use Rattle.falling.specs.Down.{Overtook, Midway, Coming, Sinking, Landing, Passed, Extended, Placed, Lengthened}
+use Rattle.fork.specs.declared.Forks.{Forks}
+use Rattle.spans.specs.declared.Jumps.{Jumps}
+use Rattle.meeting.specs.declared.Pairs.{Pairs}
+use Rattle.falling.specs.Down.{Overtook, Midway, Coming, Sinking, Landing, Passed, Placed, Extended, Lengthened}
 use Rattle.falling.proofs.Moving.{state_tied, state_moved}
 use Rattle.falling.proofs.Stretching.{topped, jump_lower, state_extended}
 
 -- A back line at its fork
 
-module _ {S : Tree} {b x : ℕ} {heights parents jumps pairs forks g : List ℕ} (C : Coming S b x heights parents jumps pairs forks g) where
+module _ {S : Tree} {b x : ℕ} {heights parents : List ℕ} {jumps : Jumps} {pairs : Pairs} {forks : Forks} {g : Groups}
+    (C : Coming S b x heights parents jumps pairs forks g) where
   F : Midway S x b 512 b jumps pairs forks g
   F = C.state
 
   X : Searched S
   X = F.finished.searched
-
-  pub coming_line : b < 2048
-  coming_line = omega (arith, C.back_line.0.below, F.finished.few_lines)
 
   own : Arriving S b x x (S.source b) b
   own =
@@ -51,70 +53,72 @@ module _ {S : Tree} {b x : ℕ} {heights parents jumps pairs forks g : List ℕ}
         its_low = low_back S X b C.back_line ∙ C.its_end;
       }
 
-  module _ {s : ℕ} (is_s : Named forks 0 b s) where
-    s_is : s ≡ S.source b
-    s_is = is_s.0 ∙ F.spans.sources b C.back_line.0.below
+  abbrev s : ℕ
+  s = at forks.source b
 
-    s_in : s < S.vertices
-    s_in = subst (λ (y : ℕ). y < S.vertices) (sym s_is) (X.source_in b C.back_line.0)
+  s_is : s ≡ S.source b
+  s_is = F.spans.sources b C.back_line.0.below
 
-    pub own_meeting : Meeting S b x x s forks pairs g
-    own_meeting =
-        record {
-          finished = F.finished;
-          spans = F.spans;
-          pairs_long = F.pairs_long;
-          vertex = s_in;
-          arriving = (b, subst (λ (y : ℕ). Arriving S b x x y b) (sym s_is) own, λ m. true_false m.0.1 C.back_line.1);
-          topped = topped F C.back_line C.its_end;
-          kept = F.kept s s_in;
-          apart = F.apart s s_in;
-          sound = F.sound;
-        }
+  s_in : s < S.vertices
+  s_in = subst (λ (y : ℕ). y < S.vertices) (sym s_is) (X.source_in b C.back_line.0)
 
-    pub own_met : {g' : List ℕ} → Outcome S g g' (MetApart S b x x s forks g') Holds → Sinking S b x heights parents jumps pairs forks g'
-    own_met {g'} (obeyed z on apart) =
-        let F' = state_tied F z on in
-        record {
-          each_height = C.each_height;
-          each_parent = C.each_parent;
-          back_line = C.back_line;
-          its_end = C.its_end;
-          state = record {
-            finished = F'.finished;
-            spans = F'.spans;
-            lows = F'.lows;
-            jumps_long = F'.jumps_long;
-            pairs_long = F'.pairs_long;
-            back_highs = F'.back_highs;
-            back_tops = F'.back_tops;
-            crowns = F'.crowns;
-            segments = F'.segments;
-            held = F'.held;
-            kept = F'.kept;
-            apart = F'.apart;
-            beside = λ f c m l t e o.
-                cases (eq_or c b)
-                (λ q.
-                subst (λ (y : ℕ). Closed (pointed g') (top S f) y 1) (sym q)
-                (apart b (subst (λ (y : ℕ). Arriving S b x x y b) (sym s_is) own) f m (e ∙ ap S.source q ∙ sym s_is) (subst (λ (y : ℕ). Overlap S f y) q o)))
-                (λ d.
-                let d' : c ≢ b = d in
-                F'.beside f c m l (cases t (λ p. inl p) (λ p. inr (p.0, omega (arith, p.1)))) e o);
-            sound = F'.sound;
-          };
-        }
+  pub own_meeting : Meeting S b x x s forks pairs g
+  own_meeting =
+      record {
+        finished = F.finished;
+        spans = F.spans;
+        pairs_long = F.pairs_long;
+        vertex = s_in;
+        arriving = (b, subst (λ (y : ℕ). Arriving S b x x y b) (sym s_is) own, λ m. true_false m.0.1 C.back_line.1);
+        topped = topped F C.back_line C.its_end;
+        kept = F.kept s s_in;
+        apart = F.apart s s_in;
+        sound = F.sound;
+      }
+
+  pub own_met : {g' : Groups} → Outcome S g g' (MetApart S b x x s forks g') (Ok tt) → Sinking S b x heights parents jumps pairs forks g'
+  own_met {g'} (obeyed z on apart) =
+      let F' = state_tied F z on in
+      record {
+        each_height = C.each_height;
+        each_parent = C.each_parent;
+        back_line = C.back_line;
+        its_end = C.its_end;
+        state = record {
+          finished = F'.finished;
+          spans = F'.spans;
+          lows = F'.lows;
+          jumps_long = F'.jumps_long;
+          pairs_long = F'.pairs_long;
+          back_highs = F'.back_highs;
+          back_tops = F'.back_tops;
+          crowns = F'.crowns;
+          segments = F'.segments;
+          held = F'.held;
+          kept = F'.kept;
+          apart = F'.apart;
+          beside = λ f c m l t e o.
+              cases (eq_or c b)
+              (λ q.
+              subst (λ (y : ℕ). Closed (pointed g') (top S f) y 1) (sym q)
+              (apart b (subst (λ (y : ℕ). Arriving S b x x y b) (sym s_is) own) f m (e ∙ ap S.source q ∙ sym s_is) (subst (λ (y : ℕ). Overlap S f y) q o)))
+              (λ d.
+              let d' : c ≢ b = d in
+              F'.beside f c m l (cases t (λ p. inl p) (λ p. inr (p.0, omega (arith, p.1)))) e o);
+          sound = F'.sound;
+        };
+      }
 
 -- The way down
 
 -- from p a jump reaches to v, or v is p
-pub record Trail (S : Tree) (b p v : ℕ) (jumps : List ℕ) : Type 0 where
+pub record Trail (S : Tree) (b p v : ℕ) (jumps : Jumps) : Type 0 where
   pub inside : p < S.vertices
   pub on_way : Above S p (S.source b)
   pub over : Above S v p
-  pub reach : (p ≡ v) ⊎ (at jumps (0 + p) ≡ v)
+  pub reach : (p ≡ v) ⊎ (at jumps.onward p ≡ v)
 
-pub record Descent (S : Tree) (b x s p v steps : ℕ) (g₀ jumps pairs forks g : List ℕ) : Type 0 where
+pub record Descent (S : Tree) (b x s p v steps : ℕ) (g₀ : Groups) (jumps : Jumps) (pairs : Pairs) (forks : Forks) (g : Groups) : Type 0 where
   pub inside : v < S.vertices
   pub on_way : Above S v (S.source b)
   pub state : Midway S x b (S.height v) (suc b) jumps pairs forks g
@@ -123,25 +127,17 @@ pub record Descent (S : Tree) (b x s p v steps : ℕ) (g₀ jumps pairs forks g 
   pub before : Trail S b p v jumps
   pub short : steps + S.height v ≤ 512
 
-module _ {S : Tree} {b x : ℕ} {heights parents jumps₀ pairs₀ forks₀ g₀ : List ℕ} (C : Sinking S b x heights parents jumps₀ pairs₀ forks₀ g₀) where
+module _ {S : Tree} {b x : ℕ} {heights parents : List ℕ} {jumps₀ : Jumps} {pairs₀ : Pairs} {forks₀ : Forks} {g₀ : Groups}
+    (C : Sinking S b x heights parents jumps₀ pairs₀ forks₀ g₀) where
   Y : Searched S
   Y = C.state.finished.searched
-
-  pub sinking_line : b < 2048
-  sinking_line = omega (arith, C.back_line.0.below, C.state.finished.few_lines)
-
-  pub sinking_end : x + 1 < 512
-  sinking_end =
-      let e = C.its_end in
-      let i = Y.source_in b C.back_line.0 in
-      omega (arith, Y.fall b C.back_line, Y.height_small (S.source b) i, C.state.finished.few_vertices)
 
   up_small : (f : ℕ) → TreeLine S f → S.height (S.target f) < 512
   up_small f l = omega (arith, Y.height_small (S.target f) (Y.target_in f l.0), C.state.finished.few_vertices)
 
-  pub descent_start : {s : ℕ} → Named forks₀ 0 b s → Descent S b x s s s 0 g₀ jumps₀ pairs₀ forks₀ g₀
-  descent_start {s} is_s =
-      let e : s ≡ S.source b = is_s.0 ∙ C.state.spans.sources b C.back_line.0.below in
+  pub descent_start : let s = at forks₀.source b in Descent S b x s s s 0 g₀ jumps₀ pairs₀ forks₀ g₀
+  descent_start =
+      let e : at forks₀.source b ≡ S.source b = C.state.spans.sources b C.back_line.0.below in
       let i = Y.source_in b C.back_line.0 in
       let t : Trail S b (S.source b) (S.source b) jumps₀ =
       record { inside = i; on_way = Y.above_self (S.source b); over = Y.above_self (S.source b); reach = inl refl } in
@@ -165,14 +161,11 @@ module _ {S : Tree} {b x : ℕ} {heights parents jumps₀ pairs₀ forks₀ g₀
         short = omega (arith, Y.height_small (S.source b) i, C.state.finished.few_vertices);
       })
 
-  module _ {s p v steps : ℕ} {jumps pairs forks g : List ℕ} (D : Descent S b x s p v steps g₀ jumps pairs forks g) where
-    pub descent_vertex : v < 512
-    descent_vertex = omega (arith, D.inside, C.state.finished.few_vertices)
-
+  module _ {s p v steps : ℕ} {jumps : Jumps} {pairs : Pairs} {forks : Forks} {g : Groups} (D : Descent S b x s p v steps g₀ jumps pairs forks g) where
     height_is : at heights v ≡ S.height v
     height_is = C.each_height.each v D.inside
 
-    pub descent_done : at heights v ≤ x + 1 → Outcome S g₀ g (Midway S x (suc b) 512 (suc b) jumps pairs forks g) Holds
+    pub descent_done : at heights v ≤ x + 1 → Outcome S g₀ g (Midway S x (suc b) 512 (suc b) jumps pairs forks g) (Ok tt)
     descent_done h =
         obeyed D.state.sound D.onward
         (state_moved D.state (record { no_higher = omega arith; there = there; back = back; earlier = λ c l t. t }))
@@ -209,75 +202,72 @@ module _ {S : Tree} {b x : ℕ} {heights parents jumps₀ pairs₀ forks₀ g₀
       over = omega (arith, height_is)
 
       abbrev u : ℕ
-      u = at jumps (0 + v)
+      u = at jumps.onward v
 
       lower : (u < S.vertices) × Above S u v × (S.height u < S.height v)
       lower = jump_lower D.state C.back_line C.its_end v D.inside (omega (arith, over))
 
-      pub descent_steps : steps + 1 < 65536
-      descent_steps = omega (arith, D.short, over)
-
       -- the tables after b has passed the jump
-      module _ {jumps' pairs' forks' g' : List ℕ} (N : Passed S b x v jumps jumps' pairs' forks' g') where
-        pub lengthen_first : Placed s v jumps'
-        lengthen_first =
-            let few = C.state.finished.few_vertices in
-            record { long = N.state.jumps_long; first = omega (arith, D.first.inside); second = omega (arith, D.inside) }
-
-        pub lengthen_second : Placed p v jumps'
-        lengthen_second =
-            let few = C.state.finished.few_vertices in
-            record { long = N.state.jumps_long; first = omega (arith, D.before.inside); second = omega (arith, D.inside) }
-
-        -- a jump that reached to v may go on to u, and when all have gone on each reaches to u
-        Reach : List ℕ → ℕ → Type 0
-        Reach l w = (at l (0 + w) ≡ v) ⊎ (at l (0 + w) ≡ u)
+      module _ {jumps' : Jumps} {pairs' : Pairs} {forks' : Forks} {g' : Groups}
+          (passed : Outcome S g g' (Passed S b x v jumps jumps' pairs' forks' g') (Ok tt)) where
+        N : Passed S b x v jumps jumps' pairs' forks' g'
+        N = (holds_of passed refl).2
 
         small : (w : ℕ) → w < S.vertices → w < 512
         small w i = omega (arith, C.state.finished.few_vertices)
+
+        pub first_placed : Placed s v jumps'
+        first_placed = record { long = N.state.jumps_long; first = small s D.first.inside; second = small v D.inside }
+
+        pub before_placed : Placed p v jumps'
+        before_placed = record { long = N.state.jumps_long; first = small p D.before.inside; second = small v D.inside }
+
+        -- a jump that reached to v may go on to u, and when all have gone on each reaches to u
+        Reach : Jumps → ℕ → Type 0
+        Reach l w = (at l.onward w ≡ v) ⊎ (at l.onward w ≡ u)
 
         trail_reach : {w : ℕ} → Trail S b w v jumps → Reach jumps' w
         unfolding Reach
         trail_reach {w} t =
             let e = N.onwards w (small w t.inside) in
-            cases t.reach (λ q. inr (e ∙ ap (λ (y : ℕ). at jumps (0 + y)) q)) (λ q. inl (e ∙ q))
+            cases t.reach (λ q. inr (e ∙ ap (at jumps.onward) q)) (λ q. inl (e ∙ q))
 
-        here : at jumps' (0 + v) ≡ u
+        here : at jumps'.onward v ≡ u
         here = N.onwards v (small v D.inside)
 
-        module _ {l l' : List ℕ} {w : ℕ} (i : w < S.vertices) (a : Above S w (S.source b)) (c : Above S v w) (r : Reach l w) (at_v : at l (0 + v) ≡ u)
+        module _ {l l' : Jumps} {w : ℕ} (i : w < S.vertices) (a : Above S w (S.source b)) (c : Above S v w) (r : Reach l w) (at_v : at l.onward v ≡ u)
             (F : Midway S x b (S.height u) (suc b) l pairs' forks' g') (E : Extended w v l l') where
-          near_far : (S.height (at l (0 + w)) ≤ S.height v) × (S.height (at l (0 + v)) ≤ S.height (at l (0 + w)))
+          near_far : (S.height (at l.onward w) ≤ S.height v) × (S.height (at l.onward v) ≤ S.height (at l.onward w))
           unfolding Reach
           near_far =
-              let z : S.height (at l (0 + v)) ≡ S.height u = ap S.height at_v in
+              let z : S.height (at l.onward v) ≡ S.height u = ap S.height at_v in
               let y = lower.2 in
               cases r
-              (λ q. let k : S.height (at l (0 + w)) ≡ S.height v = ap S.height q in (omega arith, omega arith))
-              (λ q. let k : S.height (at l (0 + w)) ≡ S.height u = ap S.height q in (omega arith, omega arith))
+              (λ q. let k : S.height (at l.onward w) ≡ S.height v = ap S.height q in (omega arith, omega arith))
+              (λ q. let k : S.height (at l.onward w) ≡ S.height u = ap S.height q in (omega arith, omega arith))
 
           goes_on : Midway S x b (S.height u) (suc b) l' pairs' forks' g'
           goes_on =
-              let z : S.height (at l (0 + v)) ≡ S.height u = ap S.height at_v in
+              let z : S.height (at l.onward v) ≡ S.height u = ap S.height at_v in
               state_extended F C.back_line C.its_end w v i a D.inside c over near_far.0 near_far.1 (omega arith) E
 
-          now_there : at l' (0 + w) ≡ u
+          now_there : at l'.onward w ≡ u
           now_there = E.onward ∙ at_v
 
           -- .. and a jump that went to u does so still
-          still_there : (y : ℕ) → y < S.vertices → at l (0 + y) ≡ u → at l' (0 + y) ≡ u
-          still_there y j e = cases (eq_or y w) (λ q. ap (λ (k : ℕ). at l' (0 + k)) q ∙ now_there) (λ d. (E.elsewhere y (small y j) d).0 ∙ e)
+          still_there : (y : ℕ) → y < S.vertices → at l.onward y ≡ u → at l'.onward y ≡ u
+          still_there y j e = cases (eq_or y w) (λ q. ap (at l'.onward) q ∙ now_there) (λ d. (E.elsewhere y (small y j) d).0 ∙ e)
 
           still_reach : (y : ℕ) → y < S.vertices → Reach l y → Reach l' y
           unfolding Reach
           still_reach y j k =
               cases k
-              (λ e. cases (eq_or y w) (λ q. inr (ap (λ (m : ℕ). at l' (0 + m)) q ∙ now_there)) (λ d. inl ((E.elsewhere y (small y j) d).0 ∙ e)))
+              (λ e. cases (eq_or y w) (λ q. inr (ap (at l'.onward) q ∙ now_there)) (λ d. inl ((E.elsewhere y (small y j) d).0 ∙ e)))
               (λ e. inr (still_there y j e))
 
         -- the jumps after
-        gone : {jumps'' : List ℕ} → Lengthened s p v jumps' jumps''
-            → Midway S x b (S.height u) (suc b) jumps'' pairs' forks' g' × (at jumps'' (0 + v) ≡ u) × (at jumps'' (0 + s) ≡ u)
+        gone : {jumps'' : Jumps} → Lengthened s p v jumps' jumps''
+            → Midway S x b (S.height u) (suc b) jumps'' pairs' forks' g' × (at jumps''.onward v ≡ u) × (at jumps''.onward s ≡ u)
         gone {jumps''} L =
             let T = D.first in
             let B = D.before in
@@ -294,9 +284,12 @@ module _ {S : Tree} {b x : ℕ} {heights parents jumps₀ pairs₀ forks₀ g₀
               still_there B.inside B.on_way B.over p₁ v₁ F₁ E s T.inside s₁,
             ))
 
-        module _ {jumps'' : List ℕ} (L : Lengthened s p v jumps' jumps'') {w : ℕ} (is_w : (w ≡ at jumps'' (0 + v)) × (w < 65536)) where
+        module _ {jumps'' : Jumps} (L : Lengthened s p v jumps' jumps'') where
+          abbrev w : ℕ
+          w = at jumps''.onward v
+
           w_is : w ≡ u
-          w_is = is_w.0 ∙ (gone L).1
+          w_is = (gone L).1
 
           pub descent_less : at heights w < at heights v
           descent_less =
@@ -304,8 +297,8 @@ module _ {S : Tree} {b x : ℕ} {heights parents jumps₀ pairs₀ forks₀ g₀
               let z : S.height w ≡ S.height u = ap S.height w_is in
               omega (arith, C.each_height.each w i, height_is, lower.2)
 
-          pub descent_more : Sound S g' → StillClosed S g g' → Descent S b x s v w (steps + 1) g₀ jumps'' pairs' forks' g'
-          descent_more z on =
+          pub descent_more : Descent S b x s v w (steps + 1) g₀ jumps'' pairs' forks' g'
+          descent_more =
               let G = gone L in
               let y = lower.2 in
               subst (λ (k : ℕ). Descent S b x s v k (steps + 1) g₀ jumps'' pairs' forks' g') (sym w_is)
@@ -313,7 +306,7 @@ module _ {S : Tree} {b x : ℕ} {heights parents jumps₀ pairs₀ forks₀ g₀
                 inside = lower.0;
                 on_way = Y.above_trans u v (S.source b) lower.1 D.on_way;
                 state = G.0;
-                onward = closed_after S g₀ g g' D.onward on;
+                onward = closed_after S g₀ g g' D.onward (holds_of passed refl).1;
                 first = record {
                   inside = D.first.inside;
                   on_way = D.first.on_way;

@@ -2,6 +2,5 @@ pub mod Moving
 pub mod Stretching
 pub mod Overtaking
 pub mod Crowning
-pub mod Joining
 pub mod Descending
 pub mod Walking

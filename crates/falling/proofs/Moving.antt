@@ -1,5 +1,4 @@
 -- What holds stays when more is tied, and when the place of the walk is said otherwise or goes on.
-use mathlib.Core.List.{List}
 use mathlib.Core.Logic.{inl, inr}
 use mathlib.Core.Path.{◌≡◌, ap}
 use Prim.Native.Nat.{ℕ, ◌≤◌, ◌<◌}
@@ -10,13 +9,17 @@ use Rattle.tree.specs.Returns.{end}
 use Rattle.tree.specs.Words.{TreeLine, BackLine, Return}
 use Rattle.fork.specs.Ends.{top}
 use Rattle.fork.proofs.Ends.{top_is}
+use Rattle.groups.specs.declared.Groups.{Groups}
 use Rattle.links.specs.Inside.{Sound, StillClosed}
 use Rattle.meeting.specs.Inside.{Met}
+use Rattle.fork.specs.declared.Forks.{Forks}
+use Rattle.spans.specs.declared.Jumps.{Jumps}
+use Rattle.meeting.specs.declared.Pairs.{Pairs}
 use Rattle.falling.specs.Down.{FallsBefore, Overtook, Worn, Bare, Joint, Stretch, Midway}
 
 -- Tree lines that have been passed
 
-module _ {S : Tree} {x b h o : ℕ} {jumps pairs forks g : List ℕ} (F : Midway S x b h o jumps pairs forks g) where
+module _ {S : Tree} {x b h o : ℕ} {jumps : Jumps} {pairs : Pairs} {forks : Forks} {g : Groups} (F : Midway S x b h o jumps pairs forks g) where
   pub worn_of : (f : ℕ) → Met S forks f → Worn S x b h forks f
   worn_of f m = cases (F.crowns f m.0) (λ w. w) (λ z. absurd (omega (arith, z.unnamed, m.1)))
 
@@ -31,7 +34,8 @@ past_end S x b h f c e (inr p) = let q : end S c ≡ end S b = ap (end S) p.0 in
 
 -- More tied
 
-module _ {S : Tree} {x b h o : ℕ} {jumps pairs forks g g' : List ℕ} (F : Midway S x b h o jumps pairs forks g) (s : Sound S g') (on : StillClosed S g g') where
+module _ {S : Tree} {x b h o : ℕ} {jumps : Jumps} {pairs : Pairs} {forks : Forks} {g g' : Groups} (F : Midway S x b h o jumps pairs forks g) (s : Sound S g')
+    (on : StillClosed S g g') where
   joint_tied : {r t w : ℕ} → t < S.lines → Joint S x forks g r t w → Joint S x forks g' r t w
   joint_tied l j =
       record {
@@ -77,7 +81,7 @@ module _ {S : Tree} {x b h o : ℕ} {jumps pairs forks g g' : List ℕ} (F : Mid
 
 -- Another place of the walk, with the same lines passed
 
-stretch_lower : {S : Tree} {x x' : ℕ} {forks g : List ℕ} {v u r t : ℕ} → x' ≤ x → Stretch S x forks g v u r t → Stretch S x' forks g v u r t
+stretch_lower : {S : Tree} {x x' : ℕ} {forks : Forks} {g : Groups} {v u r t : ℕ} → x' ≤ x → Stretch S x forks g v u r t → Stretch S x' forks g v u r t
 stretch_lower le s =
     record {
       inside = s.inside;
@@ -99,7 +103,8 @@ pub record Moves (S : Tree) (x b h o x' b' h' o' : ℕ) : Type 0 where
   pub back : (f c : ℕ) → TreeLine S f → Return S f c → Overtook S x' b' h' f c → Overtook S x b h f c
   pub earlier : (c : ℕ) → BackLine S c → FallsBefore S x' o' c → FallsBefore S x o c
 
-pub state_moved : {S : Tree} {x b h o x' b' h' o' : ℕ} {jumps pairs forks g : List ℕ} → Midway S x b h o jumps pairs forks g → Moves S x b h o x' b' h' o'
+pub state_moved : {S : Tree} {x b h o x' b' h' o' : ℕ} {jumps : Jumps} {pairs : Pairs} {forks : Forks} {g : Groups} → Midway S x b h o jumps pairs forks g
+    → Moves S x b h o x' b' h' o'
     → Midway S x' b' h' o' jumps pairs forks g
 state_moved {S} {x} {b} {h} {o} {x'} {b'} {h'} {o'} {jumps} {pairs} {forks} {g} F m =
     record {

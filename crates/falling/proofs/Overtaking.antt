@@ -3,9 +3,10 @@
 use mathlib.Core.Bool.{false}
 use mathlib.Core.List.{List}
 use mathlib.Core.Logic.{◌⊎◌, inl, inr}
-use mathlib.Core.Path.{◌≡◌, refl, sym, ◌∙◌, ap, subst}
-use Prim.Native.Nat.{ℕ, suc, ◌+◌, ◌≤◌, ◌<◌}
+use mathlib.Core.Path.{◌≡◌, refl, sym, ap, subst}
+use Prim.Native.Nat.{ℕ, suc, ◌≤◌, ◌<◌}
 use native.Mathlib.Omega.{arith}
+use Rattle.std.specs.Prelude.{Result, Ok, ⊤}
 use Rattle.laws.specs.Lists.{at}
 use Rattle.laws.proofs.Cases.{cases, lt_or, true_false}
 use Rattle.network.specs.Marks.{absent}
@@ -18,11 +19,14 @@ use Rattle.fork.specs.Link.{rival, Link, to_top}
 use Rattle.fork.proofs.Ends.{top_is, top_first, high_most, highest_yes}
 use Rattle.fork.proofs.Found.{way_return}
 use Rattle.groups.specs.Groups.{pointed}
+use Rattle.groups.specs.declared.Groups.{Groups}
 use Rattle.links.specs.Inside.{Closed, Sound, StillClosed, Outcome, obeyed, unkept, Tieable}
-use Rattle.links.specs.declared.Tie.{Tie}
-use Rattle.links.specs.declared.Tie.TheVariants.{Holds}
+use Rattle.links.specs.declared.Tear.{Tear}
 use Rattle.links.proofs.Closing.{closed_turned, closed_then, closed_same}
 use Rattle.meeting.specs.Inside.{Met}
+use Rattle.fork.specs.declared.Forks.{Forks}
+use Rattle.spans.specs.declared.Jumps.{Jumps}
+use Rattle.meeting.specs.declared.Pairs.{Pairs}
 use Rattle.falling.specs.Down.{FallsBefore, Overtook, Joint, Stretch, Midway, Landing, Passed}
 use Rattle.falling.proofs.Moving.{worn_of, state_tied}
 use Rattle.falling.proofs.Stretching.{topped}
@@ -45,7 +49,8 @@ first_is_top S x b f e r none =
     )
 
 -- more tied
-pub landing_tied : {S : Tree} {b x v : ℕ} {parents jumps pairs forks g g' : List ℕ} → Landing S b x v parents jumps pairs forks g → Sound S g' → StillClosed S g g'
+pub landing_tied : {S : Tree} {b x v : ℕ} {parents : List ℕ} {jumps : Jumps} {pairs : Pairs} {forks : Forks} {g g' : Groups}
+    → Landing S b x v parents jumps pairs forks g → Sound S g' → StillClosed S g g'
     → Landing S b x v parents jumps pairs forks g'
 landing_tied P s on =
     record {
@@ -58,7 +63,8 @@ landing_tied P s on =
       state = state_tied P.state s on;
     }
 
-module _ {S : Tree} {b x v : ℕ} {parents jumps pairs forks g : List ℕ} (P : Landing S b x v parents jumps pairs forks g) where
+module _ {S : Tree} {b x v : ℕ} {parents : List ℕ} {jumps : Jumps} {pairs : Pairs} {forks : Forks} {g : Groups}
+    (P : Landing S b x v parents jumps pairs forks g) where
   F : Midway S x b (S.height v) (suc b) jumps pairs forks g
   F = P.state
 
@@ -81,14 +87,14 @@ module _ {S : Tree} {b x v : ℕ} {parents jumps pairs forks g : List ℕ} (P : 
 
   -- A stretch passed at once
 
-  module _ (s : Stretch S x forks g v (at jumps (0 + v)) (at jumps (512 + v)) (at jumps (1024 + v))) where
-    joint_at : (f : ℕ) → TreeLine S f → Return S f b → S.height (at jumps (0 + v)) < S.height (S.target f) → S.height (S.target f) ≤ S.height v
-        → Joint S x forks g (at jumps (512 + v)) (at jumps (1024 + v)) (S.target f)
+  module _ (s : Stretch S x forks g v (at jumps.onward v) (at jumps.least v) (at jumps.held v)) where
+    joint_at : (f : ℕ) → TreeLine S f → Return S f b → S.height (at jumps.onward v) < S.height (S.target f) → S.height (S.target f) ≤ S.height v
+        → Joint S x forks g (at jumps.least v) (at jumps.held v) (S.target f)
     joint_at f l r q k = s.each (S.target f) (X.target_in f l.0) (X.above_between (S.target f) v (S.source b) (up_way f l r) P.on_way k) q
 
     -- what b has passed now it had passed before, or it is in the stretch
-    newly : (f c : ℕ) → TreeLine S f → Return S f c → Overtook S x b (S.height (at jumps (0 + v))) f c
-        → Overtook S x b (S.height v) f c ⊎ ((c ≡ b) × Joint S x forks g (at jumps (512 + v)) (at jumps (1024 + v)) (S.target f))
+    newly : (f c : ℕ) → TreeLine S f → Return S f c → Overtook S x b (S.height (at jumps.onward v)) f c
+        → Overtook S x b (S.height v) f c ⊎ ((c ≡ b) × Joint S x forks g (at jumps.least v) (at jumps.held v) (S.target f))
     newly f c l r (inl p) = inl (inl p)
     newly f c l r (inr (e, q)) =
         cases (lt_or (S.height v) (S.height (S.target f)))
@@ -97,7 +103,8 @@ module _ {S : Tree} {b x v : ℕ} {parents jumps pairs forks g : List ℕ} (P : 
 
     -- (Q3) b has passed the whole stretch from v: where a line of it holds b, the line's top is tied to the top that stands for the stretch, and b is tied to
     -- that one
-    pub state_overtaken : (at jumps (512 + v) < x → Closed (pointed g) b (at jumps (1024 + v)) 0) → Midway S x b (S.height (at jumps (0 + v))) (suc b) jumps pairs forks g
+    pub state_overtaken : (at jumps.least v < x → Closed (pointed g) b (at jumps.held v) 0)
+        → Midway S x b (S.height (at jumps.onward v)) (suc b) jumps pairs forks g
     state_overtaken tie =
         record {
           finished = F.finished;
@@ -133,8 +140,8 @@ module _ {S : Tree} {b x v : ℕ} {parents jumps pairs forks g : List ℕ} (P : 
               let e = P.its_end in
               let z : end S c ≡ end S b = ap (end S) k.0 in
               let y : rival S (S.parent (S.target f)) ≡ rival S f = ap (rival S) (line_up f l) in
-              let top_is_tied : Closed (pointed g) (top S f) (at jumps (1024 + v)) 0 =
-              subst (λ (y : ℕ). Closed (pointed g) (top S y) (at jumps (1024 + v)) 0) (line_up f l) (k.1.tied (omega (arith, q.higher))) in
+              let top_is_tied : Closed (pointed g) (top S f) (at jumps.held v) 0 =
+              subst (λ (y : ℕ). Closed (pointed g) (top S y) (at jumps.held v) 0) (line_up f l) (k.1.tied (omega (arith, q.higher))) in
               subst (λ (y : ℕ). Closed (pointed g) y (top S f) 0) (sym k.0)
               (closed_then 0 (tie (omega (arith, k.1.no_less, q.higher))) (closed_turned top_is_tied)));
           kept = F.kept;
@@ -144,7 +151,7 @@ module _ {S : Tree} {b x v : ℕ} {parents jumps pairs forks g : List ℕ} (P : 
         }
 
     -- the tie is a link: the top stands for a line that holds b, and b comes later than it
-    pub tie_link : at jumps (512 + v) < x → Tieable S b (at jumps (1024 + v)) 0 g
+    pub tie_link : at jumps.least v < x → Tieable S b (at jumps.held v) 0 g
     tie_link q =
         let w = s.place in
         let f = S.parent w in
@@ -169,25 +176,28 @@ module _ {S : Tree} {b x v : ℕ} {parents jumps pairs forks g : List ℕ} (P : 
           sound = F.sound;
         }
 
-    overtaken : {jumps' : List ℕ} → jumps' ≡ jumps → (at jumps (512 + v) < x → Closed (pointed g) b (at jumps (1024 + v)) 0) → Passed S b x v jumps jumps' pairs forks g
+    overtaken : {jumps' : Jumps} → jumps' ≡ jumps → (at jumps.least v < x → Closed (pointed g) b (at jumps.held v) 0)
+        → Passed S b x v jumps jumps' pairs forks g
     overtaken e tie = rw e (record { state = state_overtaken tie; onwards = λ w h. refl })
 
-  -- In the code's terms: something has passed the line up to v, and t is the top that stands for it
+  -- In the code's terms: something has passed the line up to v
 
-  module _ {t : ℕ} (is_t : (t ≡ at jumps (1024 + v)) × (t < 65536)) (some : t ≡ absent → ⊥) where
-    stretch_here : Stretch S x forks g v (at jumps (0 + v)) (at jumps (512 + v)) (at jumps (1024 + v))
-    stretch_here = cases (F.segments v P.inside (omega (arith, P.over))) (λ z. absurd (some (is_t.0 ∙ z.unheld))) (λ z. z)
+  module _ (some : at jumps.held v ≡ absent → ⊥) where
+    stretch_here : Stretch S x forks g v (at jumps.onward v) (at jumps.least v) (at jumps.held v)
+    stretch_here = cases (F.segments v P.inside (omega (arith, P.over))) (λ z. absurd (some z.unheld)) (λ z. z)
 
     -- no line of the stretch holds b
-    pub pass_idle : x ≤ at jumps (512 + v) → Outcome S g g (Passed S b x v jumps jumps pairs forks g) Holds
+    pub pass_idle : x ≤ at jumps.least v → Outcome S g g (Passed S b x v jumps jumps pairs forks g) (Ok tt)
     pass_idle h = obeyed F.sound (closed_same S g) (overtaken stretch_here refl (λ q. absurd (omega arith)))
 
-    pub pass_tieable : at jumps (512 + v) < x → Tieable S b t 0 g
-    pass_tieable h = subst (λ (y : ℕ). Tieable S b y 0 g) (sym is_t.0) (tie_link stretch_here h)
+    pub pass_tieable : at jumps.least v < x → Tieable S b (at jumps.held v) 0 g
+    pass_tieable h = tie_link stretch_here h
 
-pub pass_tied : {S : Tree} {b x v : ℕ} {parents jumps pairs forks g g' : List ℕ} → Landing S b x v parents jumps pairs forks g → {t : ℕ} → (t ≡ at jumps (1024 + v)) × (t < 65536)
-    → (t ≡ absent → ⊥) → {q : Tie} → Outcome S g g' (Closed (pointed g') b t 0) q → Outcome S g g' (Passed S b x v jumps jumps pairs forks g') q
-pass_tied P is_t some (unkept s k) = unkept s k
-pass_tied {S} {b} {x} {v} {parents} {jumps} {pairs} {forks} {g} {g'} P {t} is_t some (obeyed s on c) =
+pub pass_tied : {S : Tree} {b x v : ℕ} {parents : List ℕ} {jumps : Jumps} {pairs : Pairs} {forks : Forks} {g g' : Groups}
+    → Landing S b x v parents jumps pairs forks g
+    → (at jumps.held v ≡ absent → ⊥) → {q : Result ⊤ Tear} → Outcome S g g' (Closed (pointed g') b (at jumps.held v) 0) q
+    → Outcome S g g' (Passed S b x v jumps jumps pairs forks g') q
+pass_tied P some (unkept s k) = unkept s k
+pass_tied {S} {b} {x} {v} {parents} {jumps} {pairs} {forks} {g} {g'} P some (obeyed s on c) =
     let P' = landing_tied P s on in
-    obeyed s on (overtaken P' (stretch_here P' is_t some) refl (λ _. subst (λ (y : ℕ). Closed (pointed g') b y 0) is_t.0 c))
+    obeyed s on (overtaken P' (stretch_here P' some) refl (λ _. c))

@@ -1,9 +1,8 @@
 -- Segments (Q2): all that a back line has passed on its way down is one stretch, since the line is tied to each top there that still holds something. So a
 -- jump may go on over whatever the line that comes down has passed.
-use mathlib.Core.List.{List}
 use mathlib.Core.Logic.{inr}
 use mathlib.Core.Path.{◌≡◌, refl, sym, ap, subst}
-use Prim.Native.Nat.{ℕ, suc, ◌+◌, ◌≤◌, ◌<◌}
+use Prim.Native.Nat.{ℕ, suc, ◌≤◌, ◌<◌}
 use native.Mathlib.Omega.{arith}
 use Rattle.laws.specs.Lists.{at}
 use Rattle.laws.proofs.Cases.{cases, eq_or, lt_or}
@@ -16,13 +15,18 @@ use Rattle.fork.specs.Link.{rival}
 use Rattle.fork.proofs.Ends.{top_is}
 use Rattle.fork.proofs.Found.{way_return}
 use Rattle.groups.specs.Groups.{pointed}
+use Rattle.groups.specs.declared.Groups.{Groups}
 use Rattle.links.specs.Inside.{Closed}
 use Rattle.links.proofs.Closing.{closed_turned, closed_then}
 use Rattle.meeting.specs.Inside.{Met, Topped}
+use Rattle.fork.specs.declared.Forks.{Forks}
+use Rattle.spans.specs.declared.Jumps.{Jumps}
+use Rattle.meeting.specs.declared.Pairs.{Pairs}
 use Rattle.falling.specs.Down.{Overtook, Stretch, Segment, Midway, Extended}
 use Rattle.falling.proofs.Moving.{worn_of, top_line, past_end}
 
-module _ {S : Tree} {x b h o : ℕ} {jumps pairs forks g : List ℕ} (F : Midway S x b h o jumps pairs forks g) (l : BackLine S b) (e : end S b ≡ x) where
+module _ {S : Tree} {x b h o : ℕ} {jumps : Jumps} {pairs : Pairs} {forks : Forks} {g : Groups} (F : Midway S x b h o jumps pairs forks g) (l : BackLine S b)
+    (e : end S b ≡ x) where
   X : Searched S
   X = F.finished.searched
 
@@ -45,7 +49,8 @@ module _ {S : Tree} {x b h o : ℕ} {jumps pairs forks g : List ℕ} (F : Midway
       omega (arith, X.rise (S.parent w) P.0, t.return.below, past_end S x b h (S.parent w) (top S (S.parent w)) e t.past)
 
   -- a jump goes down
-  pub jump_lower : (v : ℕ) → v < S.vertices → 0 < S.height v → (at jumps (0 + v) < S.vertices) × Above S (at jumps (0 + v)) v × (S.height (at jumps (0 + v)) < S.height v)
+  pub jump_lower : (v : ℕ) → v < S.vertices → 0 < S.height v
+      → (at jumps.onward v < S.vertices) × Above S (at jumps.onward v) v × (S.height (at jumps.onward v) < S.height v)
   jump_lower v i q =
       cases (F.segments v i q)
       (λ z.
@@ -73,12 +78,13 @@ module _ {S : Tree} {x b h o : ℕ} {jumps pairs forks g : List ℕ} (F : Midway
     way_tied : rival S (S.parent w) < x → Closed (pointed g) b (top S (S.parent w)) 0
     way_tied z = let y = way_back in F.held (S.parent w) b y.0 way_past (record { return = y.2; higher = omega arith })
 
-    pub way_stretch : Stretch S x forks g w (at jumps (0 + w)) (at jumps (512 + w)) (at jumps (1024 + w))
+    pub way_stretch : Stretch S x forks g w (at jumps.onward w) (at jumps.least w) (at jumps.held w)
     way_stretch = cases (F.segments w i (omega arith)) (λ z. absurd (z.unmet way_met)) (λ z. z)
 
   -- A stretch of what b has passed
 
-  module _ (v u r t : ℕ) (i : v < S.vertices) (a : Above S v (S.source b)) (inside : u < S.vertices) (below : Above S u v) (lower : S.height u < S.height v) (q : h ≤ S.height u)
+  module _ (v u r t : ℕ) (i : v < S.vertices) (a : Above S v (S.source b)) (inside : u < S.vertices) (below : Above S u v) (lower : S.height u < S.height v)
+      (q : h ≤ S.height u)
       (each : (w : ℕ) → w < S.vertices → Above S w v → S.height u < S.height w → Met S forks (S.parent w) × (r ≤ rival S (S.parent w)))
       (place : ℕ) (place_in : place < S.vertices) (place_on : Above S place v) (place_over : S.height u < S.height place)
       (place_rival : rival S (S.parent place) ≡ r) (place_top : top S (S.parent place) ≡ t) where
@@ -116,14 +122,16 @@ module _ {S : Tree} {x b h o : ℕ} {jumps pairs forks g : List ℕ} (F : Midway
   -- Two that follow each other, or the second of which ends the first, are one
 
   module _ (p v d u r₁ t₁ r₂ t₂ : ℕ) (i : p < S.vertices) (a : Above S p (S.source b)) (c : Above S v p)
-      (s : Stretch S x forks g p d r₁ t₁) (z : Stretch S x forks g v u r₂ t₂) (near : S.height d ≤ S.height v) (far : S.height u ≤ S.height d) (q : h ≤ S.height u) where
+      (s : Stretch S x forks g p d r₁ t₁) (z : Stretch S x forks g v u r₂ t₂) (near : S.height d ≤ S.height v) (far : S.height u ≤ S.height d)
+      (q : h ≤ S.height u) where
     lower_one : S.height u < S.height p
     lower_one = omega (arith, z.lower, X.above_height v p c)
 
     on_one : (w : ℕ) → Above S w v → Above S w p
     on_one w k = X.above_trans w v p k c
 
-    one_each : (r : ℕ) → r ≤ r₁ → r ≤ r₂ → (w : ℕ) → w < S.vertices → Above S w p → S.height u < S.height w → Met S forks (S.parent w) × (r ≤ rival S (S.parent w))
+    one_each : (r : ℕ) → r ≤ r₁ → r ≤ r₂ → (w : ℕ) → w < S.vertices → Above S w p → S.height u < S.height w
+        → Met S forks (S.parent w) × (r ≤ rival S (S.parent w))
     one_each r le₁ le₂ w j k m =
         cases (lt_or (S.height d) (S.height w))
         (λ y. let n = s.each w j k y in (n.met, omega (arith, n.no_less)))
@@ -142,19 +150,20 @@ module _ {S : Tree} {x b h o : ℕ} {jumps pairs forks g : List ℕ} (F : Midway
   -- The jump from p goes on
 
   module _ (p v : ℕ) (i : p < S.vertices) (a : Above S p (S.source b)) (j : v < S.vertices) (c : Above S v p) (over : suc x < S.height v)
-      (near : S.height (at jumps (0 + p)) ≤ S.height v) (far : S.height (at jumps (0 + v)) ≤ S.height (at jumps (0 + p))) (q : h ≤ S.height (at jumps (0 + v)))
-      {jumps' : List ℕ} (E : Extended p v jumps jumps') where
+      (near : S.height (at jumps.onward p) ≤ S.height v) (far : S.height (at jumps.onward v) ≤ S.height (at jumps.onward p))
+      (q : h ≤ S.height (at jumps.onward v))
+      {jumps' : Jumps} (E : Extended p v jumps jumps') where
     v_way : Above S v (S.source b)
     v_way = X.above_trans v p (S.source b) c a
 
-    extended_here : Stretch S x forks g p (at jumps' (0 + p)) (at jumps' (512 + p)) (at jumps' (1024 + p))
+    extended_here : Stretch S x forks g p (at jumps'.onward p) (at jumps'.least p) (at jumps'.held p)
     extended_here =
         let hp = X.above_height v p c in
         let k = (jump_lower v j (omega arith)).2 in
         let z = way_stretch v j v_way over (omega arith) in
         let s = way_stretch p i a (omega arith) (omega arith) in
         let o = E.onward in
-        cases (lt_or (at jumps (512 + v)) (at jumps (512 + p)))
+        cases (lt_or (at jumps.least v) (at jumps.least p))
         (λ y. let n = E.less y in rw (o, n.0, n.1) (one_less p v _ _ _ _ _ _ i a c s z near far q y))
         (λ y. let n = E.no_less y in rw (o, n.0, n.1) (one_no_less p v _ _ _ _ _ _ i a c s z near far q y))
 

@@ -13,21 +13,23 @@
 
 mod jumps;
 
-ghost use Rattle.std.specs.Prelude.{◌≡◌, ℕ, suc, ◌+◌};
+ghost use Rattle.std.specs.Prelude.{◌≡◌, suc, ◌+◌};
 ghost use Rattle.laws.specs.Lists.{at};
 ghost use Rattle.network.specs.Marks.{absent};
-ghost use Rattle.fork.specs.Inside.{SomeTree, EachTree};
+ghost use Rattle.tree.specs.Tree.{Tree};
 ghost use Rattle.links.specs.Inside.{Outcome};
 ghost use Rattle.falling.specs.Inside.{Falling, Fallen};
 ghost use Rattle.falling.specs.Down.{Midway, Coming, Sinking, Landing, Passed, Crowned, Markable};
 
 use crate::jumps::lengthen;
-use fork::columns::{HIGH, LOW, TOP, source};
-use links::Tie;
-use meeting::{keep, meet};
-use network::{Absent, wide};
+use fork::Forks;
+use groups::Groups;
+use links::Tear;
+use meeting::{Kept, Pairs, keep, meet};
+use network::Absent;
+use network::chains::Chains;
 use side::Wants;
-use spans::columns::{HELD, LEAST, ONWARD};
+use spans::Jumps;
 
 // No line ends as high as this: the chain of this height is empty, and begins with the number of lines.
 const NO_END: usize = 511;
@@ -37,34 +39,34 @@ pub fn fall(
     vertices: usize,
     heights: &[u16; 512],
     parents: &[u16; 512],
-    heads: &[u16; 513],
-    nexts: &[u16; 2048],
-    jumps: &mut [u16; 1536],
-    forks: &mut [u16; 10240],
-    groups: &mut [u16; 8192],
-) -> Tie
-    requires { SomeTree (λ S. Falling S vertices heights.now parents.now heads.now nexts.now jumps.old forks.old groups.old) }
-    ensures { EachTree (λ S. Falling S vertices heights.now parents.now heads.now nexts.now jumps.old
-        forks.old groups.old)
-        (λ S. Outcome S groups.old groups.new (Fallen S forks.new groups.new) result) }
+    chains: &Chains<513, 2048>,
+    jumps: &mut Jumps,
+    forks: &mut Forks,
+    groups: &mut Groups,
+) -> Result<(), Tear>
+    ghost S: { Tree }
+    requires { Falling S vertices heights.now parents.now chains.now.heads chains.now.nexts jumps.old forks.old groups.old }
+    ensures { Outcome S groups.old groups.new (Fallen S forks.new groups.new) result }
 {
-    let lines = wide(heads[NO_END]);
-    let mut pairs = [Absent::ENTRY; 2048];
-    let mut x = vertices;
-    while 0 < x {
-        x -= 1;
-        let mut b = wide(heads[x]);
+    let lines = chains.heads[NO_END] as usize;
+    let nothing = Kept {
+        low: Absent::ENTRY,
+        top: Absent::ENTRY,
+    };
+    let mut pairs = Pairs {
+        first: [nothing; 512],
+        second: [nothing; 512],
+    };
+    for x in (0..vertices).rev() {
+        let mut b = chains.heads[x] as usize;
         while b < lines {
-            match come_down(
+            come_down(
                 b, x as u16, heights, parents, jumps, &mut pairs, forks, groups,
-            ) {
-                Tie::Holds => {}
-                Tie::Tears(c, d, kind) => return Tie::Tears(c, d, kind),
-            }
-            b = wide(nexts[b]);
+            )?;
+            b = chains.nexts[b] as usize;
         }
     }
-    Tie::Holds
+    Ok(())
 }
 
 // Back line b, which ends at the height x, meets the fork that it leaves, and comes down.
@@ -73,20 +75,18 @@ fn come_down(
     x: u16,
     heights: &[u16; 512],
     parents: &[u16; 512],
-    jumps: &mut [u16; 1536],
-    pairs: &mut [u16; 2048],
-    forks: &mut [u16; 10240],
-    groups: &mut [u16; 8192],
-) -> Tie
-    requires { SomeTree (λ S. Coming S b x heights.now parents.now jumps.old pairs.old forks.old groups.old) }
-    ensures { EachTree (λ S. Coming S b x heights.now parents.now jumps.old pairs.old forks.old groups.old)
-        (λ S. Outcome S groups.old groups.new
-        (Midway S x (suc b) 512 (suc b) jumps.new pairs.new forks.new groups.new) result) }
+    jumps: &mut Jumps,
+    pairs: &mut Pairs,
+    forks: &mut Forks,
+    groups: &mut Groups,
+) -> Result<(), Tear>
+    ghost S: { Tree }
+    requires { Coming S b x heights.now parents.now jumps.old pairs.old forks.old groups.old }
+    ensures { Outcome S groups.old groups.new
+        (Midway S x (suc b) 512 (suc b) jumps.new pairs.new forks.new groups.new) result }
 {
-    match meet(b, x, x, source(forks, b), forks, pairs, groups) {
-        Tie::Holds => go_down(b, x, heights, parents, jumps, pairs, forks, groups),
-        Tie::Tears(c, d, kind) => Tie::Tears(c, d, kind),
-    }
+    meet(b, x, x, forks.source[b] as usize, forks, pairs, groups)?;
+    go_down(b, x, heights, parents, jumps, pairs, forks, groups)
 }
 
 // It passes the tree lines on its way, jump by jump. The jump from its source goes on to where it stops; and from the fifth on the jump before each goes on
@@ -96,31 +96,28 @@ fn go_down(
     x: u16,
     heights: &[u16; 512],
     parents: &[u16; 512],
-    jumps: &mut [u16; 1536],
-    pairs: &mut [u16; 2048],
-    forks: &mut [u16; 10240],
-    groups: &mut [u16; 8192],
-) -> Tie
-    requires { SomeTree (λ S. Sinking S b x heights.now parents.now jumps.old pairs.old forks.old groups.old) }
-    ensures { EachTree (λ S. Sinking S b x heights.now parents.now jumps.old pairs.old forks.old groups.old)
-        (λ S. Outcome S groups.old groups.new
-        (Midway S x (suc b) 512 (suc b) jumps.new pairs.new forks.new groups.new) result) }
+    jumps: &mut Jumps,
+    pairs: &mut Pairs,
+    forks: &mut Forks,
+    groups: &mut Groups,
+) -> Result<(), Tear>
+    ghost S: { Tree }
+    requires { Sinking S b x heights.now parents.now jumps.old pairs.old forks.old groups.old }
+    ensures { Outcome S groups.old groups.new
+        (Midway S x (suc b) 512 (suc b) jumps.new pairs.new forks.new groups.new) result }
 {
-    let s = source(forks, b);
+    let s = forks.source[b] as usize;
     let mut p = s;
     let mut v = s;
     let mut steps = 0;
     while x + 1 < heights[v] {
-        match pass(b, x, v, parents, jumps, pairs, forks, groups) {
-            Tie::Holds => {}
-            Tie::Tears(c, d, kind) => return Tie::Tears(c, d, kind),
-        }
+        pass(b, x, v, parents, jumps, pairs, forks, groups)?;
         lengthen(s, p, v, steps, jumps);
         steps += 1;
         p = v;
-        v = wide(jumps[ONWARD + v]);
+        v = jumps.onward[v] as usize;
     }
-    Tie::Holds
+    Ok(())
 }
 
 // It passes the lines from v down to where the jump goes.
@@ -129,24 +126,24 @@ fn pass(
     x: u16,
     v: usize,
     parents: &[u16; 512],
-    jumps: &mut [u16; 1536],
-    pairs: &mut [u16; 2048],
-    forks: &mut [u16; 10240],
-    groups: &mut [u16; 8192],
-) -> Tie
-    requires { SomeTree (λ S. Landing S b x v parents.now jumps.old pairs.old forks.old groups.old) }
-    ensures { EachTree (λ S. Landing S b x v parents.now jumps.old pairs.old forks.old groups.old)
-        (λ S. Outcome S groups.old groups.new
-        (Passed S b x v jumps.old jumps.new pairs.new forks.new groups.new) result) }
+    jumps: &mut Jumps,
+    pairs: &mut Pairs,
+    forks: &mut Forks,
+    groups: &mut Groups,
+) -> Result<(), Tear>
+    ghost S: { Tree }
+    requires { Landing S b x v parents.now jumps.old pairs.old forks.old groups.old }
+    ensures { Outcome S groups.old groups.new
+        (Passed S b x v jumps.old jumps.new pairs.new forks.new groups.new) result }
 {
-    let t = wide(jumps[HELD + v]);
-    if t == Absent::INDEX {
+    let held = jumps.held[v];
+    if held == Absent::ENTRY {
         return crown(b, x, v, parents, jumps, pairs, forks, groups);
     }
-    if x <= jumps[LEAST + v] {
-        return Tie::Holds;
+    if x <= jumps.least[v] {
+        return Ok(());
     }
-    links::take(b, t, Wants::SAME, groups)
+    links::take(b, held as usize, Wants::Same, groups)
 }
 
 // It is the first to pass the line up to v, and so the top of that line, which meets its fork.
@@ -155,35 +152,32 @@ fn crown(
     x: u16,
     v: usize,
     parents: &[u16; 512],
-    jumps: &mut [u16; 1536],
-    pairs: &mut [u16; 2048],
-    forks: &mut [u16; 10240],
-    groups: &mut [u16; 8192],
-) -> Tie
-    requires some_tree { SomeTree (λ S. Landing S b x v parents.now jumps.old pairs.old forks.old groups.old) }
-    requires none_held { at jumps.old (1024 + v) ≡ absent }
-    ensures { EachTree (λ S. Landing S b x v parents.now jumps.old pairs.old forks.old groups.old)
-        (λ S. Outcome S groups.old groups.new
-        (Passed S b x v jumps.old jumps.new pairs.new forks.new groups.new) result) }
+    jumps: &mut Jumps,
+    pairs: &mut Pairs,
+    forks: &mut Forks,
+    groups: &mut Groups,
+) -> Result<(), Tear>
+    ghost S: { Tree }
+    requires landing { Landing S b x v parents.now jumps.old pairs.old forks.old groups.old }
+    requires none_held { at jumps.old.held v ≡ absent }
+    ensures { Outcome S groups.old groups.new
+        (Passed S b x v jumps.old jumps.new pairs.new forks.new groups.new) result }
 {
-    let f = wide(parents[v]);
-    let l = forks[LOW + f];
-    let u = wide(jumps[ONWARD + v]);
-    match meet(b, x, l, u, forks, pairs, groups) {
-        Tie::Holds => {}
-        Tie::Tears(c, d, kind) => return Tie::Tears(c, d, kind),
-    }
+    let f = parents[v] as usize;
+    let l = forks.low[f];
+    let u = jumps.onward[v] as usize;
+    meet(b, x, l, u, forks, pairs, groups)?;
     keep(b, l, u, pairs);
     mark(b, x, f, v, jumps, forks);
-    Tie::Holds
+    Ok(())
 }
 
 // Writes down that b is the top of the line f up to v.
-fn mark(b: usize, x: u16, f: usize, v: usize, jumps: &mut [u16; 1536], forks: &mut [u16; 10240])
+fn mark(b: usize, x: u16, f: usize, v: usize, jumps: &mut Jumps, forks: &mut Forks)
     requires { Markable b f v forks.old jumps.old }
     ensures { Crowned b x f v forks.old forks.new jumps.old jumps.new }
 {
-    jumps[HELD + v] = b as u16;
-    forks[TOP + f] = b as u16;
-    forks[HIGH + f] = x;
+    jumps.held[v] = b as u16;
+    forks.top[f] = b as u16;
+    forks.high[f] = x;
 }

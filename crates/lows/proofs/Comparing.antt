@@ -16,41 +16,23 @@ use Rattle.tree.specs.Returns.{low}
 use Rattle.tree.specs.Words.{TreeLine}
 use Rattle.tree.specs.Searched.{Searched}
 use Rattle.fork.specs.Link.{rival}
-use Rattle.fork.specs.Inside.{Named}
+use Rattle.fork.specs.declared.Forks.{Forks}
+use Rattle.spans.specs.declared.Jumps.{Jumps}
 use Rattle.spans.specs.Inside.{Below, Unheld}
-use Rattle.lows.specs.Inside.{Comparable, Compared, Weighable, Weighed}
+use Rattle.lows.specs.Inside.{Comparable, Weighed}
 
 -- the vertices before v have theirs
-pub record Comparing (S : Tree) (v : ℕ) (jumps : List ℕ) : Type 0 where
+pub record Comparing (S : Tree) (v : ℕ) (jumps : Jumps) : Type 0 where
   pub upto : v ≤ S.vertices
   pub below : Below S jumps
   pub unheld : Unheld S jumps
-  pub each : (u : ℕ) → u < v → 0 < S.height u → at jumps (512 + u) ≡ rival S (S.parent u)
+  pub each : (u : ℕ) → u < v → 0 < S.height u → at jumps.least u ≡ rival S (S.parent u)
 
-module _ {S : Tree} {vertices lines : ℕ} {heights parents forks jumps₀ : List ℕ} (s : Comparable S vertices lines heights parents forks jumps₀) where
+module _ {S : Tree} {vertices lines : ℕ} {heights parents : List ℕ} {forks : Forks} {jumps₀ : Jumps} (s : Comparable S vertices lines heights parents forks jumps₀) where
   X : Searched S
   X = s.finished.searched
 
-  pub comparing_weighable : Weighable S lines forks heights heights
-  comparing_weighable =
-      record {
-        same_lines = s.same_lines;
-        finished = s.finished;
-        spans = s.spans;
-        lows = s.lows;
-        each_first = s.each_height;
-        each_second = s.each_height;
-      }
-
-  pub comparing_start : Comparing S 0 jumps₀
-  comparing_start = record { upto = omega arith; below = s.below; unheld = s.unheld; each = λ u h. absurd (omega arith) }
-
-  module _ {v : ℕ} {jumps : List ℕ} (w : Comparing S v jumps) where
-    pub comparing_done : vertices ≤ v → Compared S jumps
-    comparing_done h =
-        let e = s.same_vertices in
-        record { below = w.below; least = record { each = λ u i. w.each u (omega arith) }; unheld = w.unheld }
-
+  module _ {v : ℕ} {jumps : Jumps} (w : Comparing S v jumps) where
     module _ (v_in : v < vertices) where
       place_in : v < 512
       place_in = omega (arith, s.same_vertices, s.finished.few_vertices)
@@ -80,55 +62,45 @@ module _ {S : Tree} {vertices lines : ℕ} {heights parents forks jumps₀ : Lis
         line : TreeLine S (S.parent v)
         line = (X.parent v inside above).0
 
-        module _ {u : ℕ} (is_u : Named jumps 0 v u) where
-          u_is : u ≡ S.source (S.parent v)
-          u_is = is_u.0 ∙ w.below.each v inside above
+        abbrev u : ℕ
+        u = at jumps.onward v
 
-          pub comparing_below : u < 512
-          comparing_below = omega (arith, u_is, X.source_in (S.parent v) line.0, s.finished.few_vertices)
+        u_is : u ≡ S.source (S.parent v)
+        u_is = w.below.each v inside above
 
-          module _ {f : ℕ} (is_f : (f ≡ at parents v) × (f < 65536)) where
-            f_is : f ≡ S.parent v
-            f_is = is_f.0 ∙ s.each_parent.each v inside
+        low_is : at forks.low (at parents v) ≡ low S (S.parent v)
+        low_is = ap (λ (k : ℕ). at forks.low k) (s.each_parent.each v inside) ∙ s.lows.each (S.parent v) line.0.below
 
-            pub comparing_line : f < 2048
-            comparing_line = omega (arith, f_is, line.0.below, s.finished.few_lines)
+        pub comparing_more : {firsts seconds : List ℕ} → Weighed S firsts seconds → {x : ℕ}
+            → x ≡ cond (eqb (at forks.low (at parents v)) (at firsts u)) (at seconds u) (at firsts u)
+            → Comparing S (v + 1) (record { onward = jumps.onward; least = set jumps.least v x; held = jumps.held })
+        comparing_more {firsts} {seconds} r {x} is_x =
+            let place = place_in in
+            let few = s.finished.few_vertices in
+            let long = w.below.long in
+            record {
+              upto = omega (arith, inside);
+              below = record {
+                long = record { onwards = long.onwards; leasts = length-set jumps.least v x ∙ long.leasts; helds = long.helds };
+                each = w.below.each;
+              };
+              unheld = record { each = w.unheld.each };
+              each = λ y i p.
+                  cases (eq_or y v)
+                  (λ e. subst (λ (z : ℕ). at (set jumps.least v x) z ≡ rival S (S.parent z)) (sym e)
+                  (get_or-set_same jumps.least v x 0 (omega (arith, long.leasts)) ∙ told))
+                  (λ d. let d' : y ≢ v = d in get_or-set_other jumps.least v y x 0 d ∙ w.each y (omega arith) p);
+            }
+          where
+            first_of : at firsts u ≡ at firsts (S.source (S.parent v))
+            first_of = ap (at firsts) u_is
 
-            low_is : at forks (4096 + f) ≡ low S (S.parent v)
-            low_is = ap (λ (k : ℕ). at forks (4096 + k)) f_is ∙ s.lows.each (S.parent v) line.0.below
-
-            pub comparing_more : {firsts seconds : List ℕ} → (Weighable S lines forks heights heights → Weighed S firsts seconds) → {x : ℕ}
-                → x ≡ cond (eqb (at forks (4096 + f)) (at firsts u)) (at seconds u) (at firsts u) → Comparing S (v + 1) (set jumps (512 + v) x)
-            comparing_more {firsts} {seconds} weighed {x} is_x =
-                let place = place_in in
-                let few = s.finished.few_vertices in
-                let long = w.below.long in
-                record {
-                  upto = omega (arith, inside);
-                  below = record {
-                    long = length-set jumps (512 + v) x ∙ long;
-                    each = λ y i p. get_or-set_other jumps (512 + v) (0 + y) x 0 (λ z. omega arith) ∙ w.below.each y i p;
-                  };
-                  unheld = record { each = λ y i. get_or-set_other jumps (512 + v) (1024 + y) x 0 (λ z. omega arith) ∙ w.unheld.each y i };
-                  each = λ y i p.
-                      cases (eq_or y v)
-                      (λ e. subst (λ (z : ℕ). at (set jumps (512 + v) x) (512 + z) ≡ rival S (S.parent z)) (sym e)
-                      (get_or-set_same jumps (512 + v) x 0 (omega arith) ∙ told))
-                      (λ d. let d' : y ≢ v = d in get_or-set_other jumps (512 + v) (512 + y) x 0 (λ z. omega arith) ∙ w.each y (omega arith) p);
-                }
-              where
-                r : Weighed S firsts seconds
-                r = weighed comparing_weighable
-
-                first_of : at firsts u ≡ at firsts (S.source (S.parent v))
-                first_of = ap (at firsts) u_is
-
-                told : x ≡ rival S (S.parent v)
-                told =
-                    cases (eq_or (at forks (4096 + f)) (at firsts u))
-                    (λ e.
-                    is_x ∙ (rw (eq-eqb (at forks (4096 + f)) (at firsts u) e) (ap (at seconds) u_is)) ∙ r.own (S.parent v) line.0.below
-                    (sym low_is ∙ e ∙ first_of))
-                    (λ d.
-                    is_x ∙ (rw (ne_eqb (at forks (4096 + f)) (at firsts u) d) first_of)
-                    ∙ r.other (S.parent v) line.0.below (λ z. d (low_is ∙ z ∙ sym first_of)))
+            told : x ≡ rival S (S.parent v)
+            told =
+                cases (eq_or (at forks.low (at parents v)) (at firsts u))
+                (λ e.
+                is_x ∙ (rw (eq-eqb (at forks.low (at parents v)) (at firsts u) e) (ap (at seconds) u_is)) ∙ r.own (S.parent v) line.0.below
+                (sym low_is ∙ e ∙ first_of))
+                (λ d.
+                is_x ∙ (rw (ne_eqb (at forks.low (at parents v)) (at firsts u) d) first_of)
+                ∙ r.other (S.parent v) line.0.below (λ z. d (low_is ∙ z ∙ sym first_of)))

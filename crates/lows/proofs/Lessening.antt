@@ -20,7 +20,7 @@ use Rattle.tree.specs.Tree.{Tree}
 use Rattle.tree.specs.Returns.{low}
 use Rattle.fork.specs.Fork.{forkb}
 use Rattle.fork.specs.Link.{rival}
-use Rattle.fork.specs.Inside.{Named}
+use Rattle.fork.specs.declared.Forks.{Forks}
 use Rattle.fork.proofs.Found.{rival_found}
 use Rattle.lows.specs.Inside.{Weighable, Weighed}
 
@@ -146,7 +146,7 @@ pub record Lessening (S : Tree) (k : ℕ) (firsts seconds : List ℕ) : Type 0 w
   pub seconds_long : length seconds ≡ 512
   pub each : (f : ℕ) → f < S.lines → Share S f k (at firsts (S.source f)) (at seconds (S.source f))
 
-module _ {S : Tree} {lines : ℕ} {forks firsts₀ seconds₀ : List ℕ} (s : Weighable S lines forks firsts₀ seconds₀) where
+module _ {S : Tree} {lines : ℕ} {forks : Forks} {firsts₀ seconds₀ : List ℕ} (s : Weighable S lines forks firsts₀ seconds₀) where
   live : (k : ℕ) → k < S.lines → S.live k ≡ true
   live k h = (s.finished.every k h).yes
 
@@ -190,38 +190,40 @@ module _ {S : Tree} {lines : ℕ} {forks firsts₀ seconds₀ : List ℕ} (s : W
       k_in : k < S.lines
       k_in = omega (arith, s.same_lines)
 
-      module _ {v : ℕ} (is_v : Named forks 0 k v) where
-        v_source : v ≡ S.source k
-        v_source = is_v.0 ∙ s.spans.sources k k_in
+      abbrev v : ℕ
+      v = at forks.source k
 
-        pub lessening_vertex : v < 512
-        lessening_vertex = omega (arith, v_source, leaves k k_in, s.finished.few_vertices)
+      v_source : v ≡ S.source k
+      v_source = s.spans.sources k k_in
 
-        -- the two values of the line's own vertex change, told for each line that leaves it
-        pub lessening_more : {a' b' m : ℕ} → a' ≡ min (at forks (4096 + k)) (at firsts v) → m ≡ max (at forks (4096 + k)) (at firsts v) → b' ≡ min m (at seconds v)
-            → Lessening S (k + 1) (set firsts v a') (set seconds v b')
-        lessening_more {a'} {b'} is_a is_m is_b =
-            let place = lessening_vertex in
-            record {
-              upto = omega (arith, k_in);
-              firsts_long = length-set firsts v a' ∙ r.firsts_long;
-              seconds_long = length-set seconds v b' ∙ r.seconds_long;
-              each = λ f h.
-                  let old = r.each f h in
-                  cases (eq_or (S.source f) v)
-                  (λ e.
-                  let here = subst (λ (u : ℕ). Share S f k (at firsts u) (at seconds u)) e old in
-                  let new =
-                  share_more S f k (at firsts v) (at seconds v) here (live f h) (live k k_in) (e ∙ v_source) (at forks (4096 + k)) (s.lows.each k k_in) in
-                  rw (
-                    e,
-                    get_or-set_same firsts v a' 0 (omega (arith, r.firsts_long)),
-                    get_or-set_same seconds v b' 0 (omega (arith, r.seconds_long)),
-                    is_a,
-                    is_b,
-                    is_m,
-                  ) new)
-                  (λ d.
-                  rw (get_or-set_other firsts v (S.source f) a' 0 d, get_or-set_other seconds v (S.source f) b' 0 d)
-                  (share_pass S f k (at firsts (S.source f)) (at seconds (S.source f)) old (λ z. d (z ∙ sym v_source))));
-            }
+      pub lessening_vertex : v < 512
+      lessening_vertex = omega (arith, v_source, leaves k k_in, s.finished.few_vertices)
+
+      -- the two values of the line's own vertex change, told for each line that leaves it
+      pub lessening_more : {a' b' m : ℕ} → a' ≡ min (at forks.low k) (at firsts v) → m ≡ max (at forks.low k) (at firsts v) → b' ≡ min m (at seconds v)
+          → Lessening S (k + 1) (set firsts v a') (set seconds v b')
+      lessening_more {a'} {b'} is_a is_m is_b =
+          let place = lessening_vertex in
+          record {
+            upto = omega (arith, k_in);
+            firsts_long = length-set firsts v a' ∙ r.firsts_long;
+            seconds_long = length-set seconds v b' ∙ r.seconds_long;
+            each = λ f h.
+                let old = r.each f h in
+                cases (eq_or (S.source f) v)
+                (λ e.
+                let here = subst (λ (u : ℕ). Share S f k (at firsts u) (at seconds u)) e old in
+                let new =
+                share_more S f k (at firsts v) (at seconds v) here (live f h) (live k k_in) (e ∙ v_source) (at forks.low k) (s.lows.each k k_in) in
+                rw (
+                  e,
+                  get_or-set_same firsts v a' 0 (omega (arith, r.firsts_long)),
+                  get_or-set_same seconds v b' 0 (omega (arith, r.seconds_long)),
+                  is_a,
+                  is_b,
+                  is_m,
+                ) new)
+                (λ d.
+                rw (get_or-set_other firsts v (S.source f) a' 0 d, get_or-set_other seconds v (S.source f) b' 0 d)
+                (share_pass S f k (at firsts (S.source f)) (at seconds (S.source f)) old (λ z. d (z ∙ sym v_source))));
+          }

@@ -21,24 +21,22 @@ use Rattle.fork.proofs.Links.{low_back}
 use Rattle.fork.specs.Inside.{Spans}
 use Rattle.spans.specs.Inside.{Unlowed, Untopped}
 use Rattle.rising.proofs.Passing.{line_up}
+use Rattle.fork.specs.declared.Forks.{Forks}
 use Rattle.lows.specs.Inside.{Bottomed, Plumbed}
 
 -- the tree lines up to the vertices before v have theirs
-pub record Plumbing (S : Tree) (v : ℕ) (forks : List ℕ) : Type 0 where
+pub record Plumbing (S : Tree) (v : ℕ) (forks : Forks) : Type 0 where
   pub upto : v ≤ S.vertices
   pub spans : Spans S forks
   pub unlowed : Unlowed S forks
   pub untopped : Untopped S forks
-  pub each : (u : ℕ) → u < v → 0 < S.height u → at forks (4096 + S.parent u) ≡ low S (S.parent u)
+  pub each : (u : ℕ) → u < v → 0 < S.height u → at forks.low (S.parent u) ≡ low S (S.parent u)
 
-module _ {S : Tree} {vertices : ℕ} {heights parents bottoms forks₀ : List ℕ} (s : Bottomed S vertices heights parents bottoms forks₀) where
+module _ {S : Tree} {vertices : ℕ} {heights parents bottoms : List ℕ} {forks₀ : Forks} (s : Bottomed S vertices heights parents bottoms forks₀) where
   X : Searched S
   X = s.finished.searched
 
-  pub plumbing_start : Plumbing S 0 forks₀
-  plumbing_start = record { upto = omega arith; spans = s.spans; unlowed = s.unlowed; untopped = s.untopped; each = λ u h. absurd (omega arith) }
-
-  module _ {v : ℕ} {forks : List ℕ} (w : Plumbing S v forks) where
+  module _ {v : ℕ} {forks : Forks} (w : Plumbing S v forks) where
     pub plumbing_done : vertices ≤ v → Plumbed S forks
     plumbing_done h =
         record {
@@ -49,7 +47,7 @@ module _ {S : Tree} {vertices : ℕ} {heights parents bottoms forks₀ : List �
                 cases (bool (S.tree k))
                 (λ t.
                 let q = line_up S X k (l, t) in
-                subst (λ (f : ℕ). at forks (4096 + f) ≡ low S f) q.2 (w.each (S.target k) (omega (arith, q.0, s.same_vertices)) q.1))
+                subst (λ (f : ℕ). at forks.low f ≡ low S f) q.2 (w.each (S.target k) (omega (arith, q.0, s.same_vertices)) q.1))
                 (λ t. w.unlowed.back_lows k (l, t) ∙ sym (low_back S X k (l, t)));
           };
           untopped = w.untopped;
@@ -75,9 +73,12 @@ module _ {S : Tree} {vertices : ℕ} {heights parents bottoms forks₀ : List �
                 (λ d. let d' : u ≢ v = d in w.each u (omega arith) p);
           }
 
-      module _ (high : 0 < at heights v) {f : ℕ} (is_f : (f ≡ at parents v) × (f < 65536)) where
+      module _ (high : 0 < at heights v) where
+        abbrev f : ℕ
+        f = at parents v
+
         f_is : f ≡ S.parent v
-        f_is = is_f.0 ∙ s.each_parent.each v inside
+        f_is = s.each_parent.each v inside
 
         above : 0 < S.height v
         above = omega (arith, height_is)
@@ -85,37 +86,44 @@ module _ {S : Tree} {vertices : ℕ} {heights parents bottoms forks₀ : List �
         f_line : TreeLine S f
         f_line = subst (λ (x : ℕ). TreeLine S x) (sym f_is) (X.parent v inside above).0
 
-        pub plumbing_line : f < 2048
+        plumbing_line : f < 2048
         plumbing_line = omega (arith, f_line.0.below, s.finished.few_lines)
 
         -- another tree line keeps its low, and each back line: it is no tree line
-        more : (x : ℕ) → x ≡ low S f → Plumbing S (v + 1) (set forks (4096 + f) x)
+        abbrev lowered : ℕ → Forks
+        lowered x = record { source = forks.source; stop = forks.stop; low = set forks.low f x; high = forks.high; top = forks.top }
+
+        more : (x : ℕ) → x ≡ low S f → Plumbing S (v + 1) (lowered x)
         more x e =
             let small = plumbing_line in
-            let lines = s.finished.few_lines in
+            let long = w.spans.long in
             record {
               upto = omega (arith, inside);
               spans = record {
-                long = length-set forks (4096 + f) x ∙ w.spans.long;
-                sources = λ k i. get_or-set_other forks (4096 + f) (0 + k) x 0 (λ z. omega arith) ∙ w.spans.sources k i;
-                stops = λ b l. let i = l.0.below in get_or-set_other forks (4096 + f) (2048 + b) x 0 (λ z. omega arith) ∙ w.spans.stops b l;
-                no_stops = λ b l. let i = l.0.below in get_or-set_other forks (4096 + f) (2048 + b) x 0 (λ z. omega arith) ∙ w.spans.no_stops b l;
+                long = record {
+                  sources = long.sources;
+                  stops = long.stops;
+                  lows = length-set forks.low f x ∙ long.lows;
+                  highs = long.highs;
+                  tops = long.tops;
+                };
+                sources = w.spans.sources;
+                stops = w.spans.stops;
+                no_stops = w.spans.no_stops;
               };
-              unlowed = record {
-                back_lows = λ b l. get_or-set_other forks (4096 + f) (4096 + b) x 0 (λ z. apart b l (omega arith)) ∙ w.unlowed.back_lows b l;
-              };
+              unlowed = record { back_lows = λ b l. get_or-set_other forks.low f b x 0 (apart b l) ∙ w.unlowed.back_lows b l };
               untopped = record {
-                back_highs = λ b l. get_or-set_other forks (4096 + f) (6144 + b) x 0 (λ z. omega arith) ∙ w.untopped.back_highs b l;
-                back_tops = λ b l. get_or-set_other forks (4096 + f) (8192 + b) x 0 (λ z. omega arith) ∙ w.untopped.back_tops b l;
-                tree_highs = λ b l. get_or-set_other forks (4096 + f) (6144 + b) x 0 (λ z. omega arith) ∙ w.untopped.tree_highs b l;
-                tree_tops = λ b l. get_or-set_other forks (4096 + f) (8192 + b) x 0 (λ z. omega arith) ∙ w.untopped.tree_tops b l;
+                back_highs = w.untopped.back_highs;
+                back_tops = w.untopped.back_tops;
+                tree_highs = w.untopped.tree_highs;
+                tree_tops = w.untopped.tree_tops;
               };
               each = λ u i p.
                   cases (eq_or (S.parent u) f)
-                  (λ q. subst (λ (k : ℕ). at (set forks (4096 + f) x) (4096 + k) ≡ low S k) (sym q)
-                  (get_or-set_same forks (4096 + f) x 0 (omega (arith, w.spans.long)) ∙ e))
+                  (λ q. subst (λ (k : ℕ). at (set forks.low f x) k ≡ low S k) (sym q)
+                  (get_or-set_same forks.low f x 0 (omega (arith, long.lows)) ∙ e))
                   (λ d.
-                  get_or-set_other forks (4096 + f) (4096 + S.parent u) x 0 (λ z. d (omega arith))
+                  get_or-set_other forks.low f (S.parent u) x 0 d
                   ∙ w.each u (before u i (λ q. d (ap S.parent q ∙ sym f_is))) p);
             }
           where
@@ -125,33 +133,35 @@ module _ {S : Tree} {vertices : ℕ} {heights parents bottoms forks₀ : List �
             before : (u : ℕ) → u < v + 1 → (u ≡ v → ⊥) → u < v
             before u i d = let d' : u ≢ v = d in omega arith
 
-        module _ {b : ℕ} (is_b : (b ≡ at bottoms v) × (b < 65536)) where
-          kinds : (Return S f b × (end S b ≡ low S f)) ⊎ ((b ≡ absent) × (low S f ≡ S.height (S.source f)))
-          kinds =
-              cases (low_cases S f)
-              (λ q.
-              let r = subst (λ (x : ℕ). Return S x q.0) f_is q.1 in
-              let l = bottom_is S f q.0 q.1 in
-              let e : bottom S f ≡ b = ap (bottom S) f_is ∙ sym (s.each_bottom.some v q.0 inside above r) ∙ sym is_b.0 in
-              inl (subst (λ (x : ℕ). Return S f x × (end S x ≡ low S f)) e (l.return, l.at_low)))
-              (λ q. inr (is_b.0 ∙ s.each_bottom.none v inside above (λ d r. q.1 d (subst (λ (x : ℕ). Return S x d) (sym f_is) r)), q.0))
+        abbrev b : ℕ
+        b = at bottoms v
 
-          pub plumbing_none : b ≡ absent → Plumbing S (v + 1) (set forks (4096 + f) (at heights v - 1))
-          plumbing_none e =
-              more (at heights v - 1)
-              (cases kinds
-              (λ q. absurd (omega (arith, q.0.is_back.0.below, s.finished.few_lines)))
-              (λ q.
-              let up = X.rise f f_line in
-              let t : S.height (S.target f) ≡ S.height v = ap S.height (ap S.target f_is ∙ (X.parent v inside above).1) in
-              omega (arith, q.1, height_is)))
+        kinds : (Return S f b × (end S b ≡ low S f)) ⊎ ((b ≡ absent) × (low S f ≡ S.height (S.source f)))
+        kinds =
+            cases (low_cases S f)
+            (λ q.
+            let r = subst (λ (x : ℕ). Return S x q.0) f_is q.1 in
+            let l = bottom_is S f q.0 q.1 in
+            let e : bottom S f ≡ b = ap (bottom S) f_is ∙ sym (s.each_bottom.some v q.0 inside above r) in
+            inl (subst (λ (x : ℕ). Return S f x × (end S x ≡ low S f)) e (l.return, l.at_low)))
+            (λ q. inr (s.each_bottom.none v inside above (λ d r. q.1 d (subst (λ (x : ℕ). Return S x d) (sym f_is) r)), q.0))
 
-          module _ (some : b ≡ absent → ⊥) where
-            lowest : Return S f b × (end S b ≡ low S f)
-            lowest = cases kinds (λ q. q) (λ q. absurd (some q.0))
+        pub plumbing_none : b ≡ absent → Plumbing S (v + 1) (lowered (at heights v - 1))
+        plumbing_none e =
+            more (at heights v - 1)
+            (cases kinds
+            (λ q. absurd (omega (arith, q.0.is_back.0.below, s.finished.few_lines)))
+            (λ q.
+            let up = X.rise f f_line in
+            let t : S.height (S.target f) ≡ S.height v = ap S.height (ap S.target f_is ∙ (X.parent v inside above).1) in
+            omega (arith, q.1, height_is)))
 
-            pub plumbing_bottom : b < 2048
-            plumbing_bottom = omega (arith, lowest.0.is_back.0.below, s.finished.few_lines)
+        module _ (some : b ≡ absent → ⊥) where
+          lowest : Return S f b × (end S b ≡ low S f)
+          lowest = cases kinds (λ q. q) (λ q. absurd (some q.0))
 
-            pub plumbing_some : Plumbing S (v + 1) (set forks (4096 + f) (at forks (2048 + b)))
-            plumbing_some = more (at forks (2048 + b)) (w.spans.stops b lowest.0.is_back ∙ lowest.1)
+          pub plumbing_bottom : b < 2048
+          plumbing_bottom = omega (arith, lowest.0.is_back.0.below, s.finished.few_lines)
+
+          pub plumbing_some : Plumbing S (v + 1) (lowered (at forks.stop b))
+          plumbing_some = more (at forks.stop b) (w.spans.stops b lowest.0.is_back ∙ lowest.1)

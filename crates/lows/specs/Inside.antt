@@ -5,11 +5,13 @@ use Rattle.tree.specs.Tree.{Tree}
 use Rattle.tree.specs.Returns.{low}
 use Rattle.fork.specs.Link.{rival}
 use Rattle.fork.specs.Inside.{Finished, Heights, Parents, Spans, Lows}
+use Rattle.fork.specs.declared.Forks.{Forks}
 use Rattle.spans.specs.Inside.{Unlowed, Untopped, Below, Least, Unheld}
+use Rattle.spans.specs.declared.Jumps.{Jumps}
 use Rattle.rising.specs.Inside.{Bottoms}
 
 -- What `measure` goes by, and what it leaves.
-pub record Bottomed (S : Tree) (vertices : ℕ) (heights parents bottoms forks : List ℕ) : Type 0 where
+pub record Bottomed (S : Tree) (vertices : ℕ) (heights parents bottoms : List ℕ) (forks : Forks) : Type 0 where
   pub same_vertices : S.vertices ≡ vertices
   pub finished : Finished S
   pub each_height : Heights S heights
@@ -19,13 +21,13 @@ pub record Bottomed (S : Tree) (vertices : ℕ) (heights parents bottoms forks :
   pub unlowed : Unlowed S forks
   pub untopped : Untopped S forks
 
-pub record Plumbed (S : Tree) (forks' : List ℕ) : Type 0 where
+pub record Plumbed (S : Tree) (forks' : Forks) : Type 0 where
   pub spans : Spans S forks'
   pub lows : Lows S forks'
   pub untopped : Untopped S forks'
 
 -- What `rivals` goes by, and what it leaves.
-pub record Comparable (S : Tree) (vertices lines : ℕ) (heights parents forks jumps : List ℕ) : Type 0 where
+pub record Comparable (S : Tree) (vertices lines : ℕ) (heights parents : List ℕ) (forks : Forks) (jumps : Jumps) : Type 0 where
   pub same_vertices : S.vertices ≡ vertices
   pub same_lines : S.lines ≡ lines
   pub finished : Finished S
@@ -36,13 +38,13 @@ pub record Comparable (S : Tree) (vertices lines : ℕ) (heights parents forks j
   pub below : Below S jumps
   pub unheld : Unheld S jumps
 
-pub record Compared (S : Tree) (jumps' : List ℕ) : Type 0 where
+pub record Compared (S : Tree) (jumps' : Jumps) : Type 0 where
   pub below : Below S jumps'
   pub least : Least S jumps'
   pub unheld : Unheld S jumps'
 
 -- What the pass over the lines goes by: two tables that have each vertex's height.
-pub record Weighable (S : Tree) (lines : ℕ) (forks firsts seconds : List ℕ) : Type 0 where
+pub record Weighable (S : Tree) (lines : ℕ) (forks : Forks) (firsts seconds : List ℕ) : Type 0 where
   pub same_lines : S.lines ≡ lines
   pub finished : Finished S
   pub spans : Spans S forks

@@ -1,12 +1,13 @@
 -- Lines that meet at a vertex by falling highs: the two with the least lows stand for all that were met before. For whatever overlaps a line that ends
 -- as high as x has a low below x; all that were met end at x or higher; so three with lows below x would overlap each other, and no three are apart.
-use mathlib.Core.List.{List}
 use mathlib.Core.Logic.{◌⊎◌, inl, inr}
 use mathlib.Core.Path.{◌≡◌, sym, ◌∙◌, ap, subst}
-use Prim.Native.Nat.{ℕ, ◌+◌, ◌≤◌, ◌<◌}
+use Prim.Native.Nat.{ℕ, ◌≤◌, ◌<◌}
 use native.Mathlib.Omega.{arith}
+use Rattle.std.specs.Prelude.{Result, Ok, Err, ⊤, IsErrAnd}
 use Rattle.laws.specs.Lists.{at}
 use Rattle.laws.proofs.Cases.{cases, eq_or}
+use Rattle.laws.proofs.Passing.{passed_on}
 use Rattle.side.specs.Sides.{different}
 use Rattle.tree.specs.Tree.{Tree}
 use Rattle.tree.specs.Returns.{end, low}
@@ -17,13 +18,14 @@ use Rattle.fork.specs.Link.{Overlap, Link, tops, turned}
 use Rattle.fork.proofs.Ends.{top_is}
 use Rattle.fork.proofs.Links.{low_back}
 use Rattle.groups.specs.Groups.{pointed}
+use Rattle.groups.specs.declared.Groups.{Groups}
 use Rattle.links.specs.Inside.{Closed, Sound, StillClosed, Outcome, obeyed, unkept, Tieable}
-use Rattle.links.specs.declared.Tie.{Tie}
-use Rattle.links.specs.declared.Tie.TheVariants.{Holds, Tears}
+use Rattle.links.specs.declared.Tear.{Tear}
 use Rattle.links.proofs.Closing.{closed_turned, closed_odd, closed_same, closed_after}
-use Rattle.links.proofs.Outcomes.{torn}
-use Rattle.meeting.specs.Inside.{Met, KeptLine, TwoLeast, none, one, two, Meeting, MetApart}
-use Rattle.meeting.specs.Facing.{Facing, Parted, SecondParted}
+use Rattle.fork.specs.declared.Forks.{Forks}
+use Rattle.meeting.specs.declared.Pairs.{Pairs}
+use Rattle.meeting.specs.Inside.{kept_at, Met, KeptLine, TwoLeast, none, one, two, Meeting, MetApart}
+use Rattle.meeting.specs.Facing.{Facing, Parted, Beside, KeptParted, SecondParted}
 use Rattle.meeting.proofs.Staying.{apart_onward}
 
 -- Which lines overlap
@@ -39,7 +41,7 @@ module _ {S : Tree} where
 
 -- What was met before a line arrives
 
-module _ {S : Tree} {b x l u : ℕ} {forks pairs g : List ℕ} (m : Meeting S b x l u forks pairs g) where
+module _ {S : Tree} {b x l u : ℕ} {forks : Forks} {pairs : Pairs} {g : Groups} (m : Meeting S b x l u forks pairs g) where
   -- (X1) of what was met at one vertex no three have lows below x: they end at x or higher, so their tops would be apart in pairs
   no_three : {f h k : ℕ} → Met S forks f → Met S forks h → Met S forks k → S.source f ≡ u → S.source h ≡ u → S.source k ≡ u
       → (f ≡ h → ⊥) → (h ≡ k → ⊥) → (f ≡ k → ⊥) → low S f < x → low S h < x → low S k < x → ⊥
@@ -71,22 +73,22 @@ module _ {S : Tree} {b x l u : ℕ} {forks pairs g : List ℕ} (m : Meeting S b 
       absurd (no_three mf k.met j.met v k.leaves j.leaves fp d fq lf (omega (arith, k.its_low, o)) (omega (arith, j.its_low, o)))))))
 
   -- the top of a line that was met ends as high as the line
-  stop_top : (f : ℕ) → Met S forks f → at forks (2048 + top S f) ≡ high S f
+  stop_top : (f : ℕ) → Met S forks f → at forks.stop (top S f) ≡ high S f
   stop_top f mf = let r = (m.topped f mf).return in m.spans.stops (top S f) r.is_back ∙ (top_is S f (top S f) r).at_high
 
   -- so the line that arrives is apart from all, where it is apart from those of the two kept whose lows are below x and that end above its low
-  pub met_apart : (g' : List ℕ) → (at pairs (0 + u) < x → Parted b l (at pairs (512 + u)) forks g')
-      → (at pairs (0 + u) < x → SecondParted b x l u forks pairs g') → MetApart S b x l u forks g'
+  pub met_apart : (g' : Groups) → ((kept_at pairs.first u).low < x → Parted b l (kept_at pairs.first u).top forks g')
+      → ((kept_at pairs.first u).low < x → SecondParted b x l u forks pairs g') → MetApart S b x l u forks g'
   met_apart g' first second e a f mf v o =
-      let h : l < at forks (2048 + top S f) = omega (arith, stop_top f mf, o.over, a.its_low) in
+      let h : l < at forks.stop (top S f) = omega (arith, stop_top f mf, o.over, a.its_low) in
       let lf : low S f < x = omega (arith, o.under, a.its_high) in
       cases (one_of_two m.kept f mf v lf)
       (λ q.
       subst (λ t. Closed (pointed g') t b different) q.1
-      (first (omega (arith, q.0)) (subst (λ t. l < at forks (2048 + t)) (sym q.1) h)))
+      (first (omega (arith, q.0)) (subst (λ t. l < at forks.stop t) (sym q.1) h)))
       (λ q.
       subst (λ t. Closed (pointed g') t b different) q.2
-      (second (omega (arith, q.0, q.1)) (omega (arith, q.1)) (subst (λ t. l < at forks (2048 + t)) (sym q.2) h)))
+      (second (omega (arith, q.0, q.1)) (omega (arith, q.1)) (subst (λ t. l < at forks.stop t) (sym q.2) h)))
 
   -- what is kept has a low below x, which is a height: so it is a line, and the two are a fork
   x_height : x < 512
@@ -128,14 +130,14 @@ module _ {S : Tree} {b x l u : ℕ} {forks pairs g : List ℕ} (m : Meeting S b 
   facing_two (one p k e₂ n) h = absurd (omega (arith, x_height))
   facing_two (two p q d k j le n) h = facing_line j h
 
-  pub facing_first : {t : ℕ} → t ≡ at pairs (512 + u) → at pairs (0 + u) < x → Facing S b l t forks g
-  facing_first z h = rw z (facing_one m.kept h)
+  pub first_beside : Beside S b x l (kept_at pairs.first u).low (kept_at pairs.first u).top forks g
+  first_beside = record { sound = m.sound; facing = facing_one m.kept }
 
-  pub facing_second : {t : ℕ} → t ≡ at pairs (1536 + u) → at pairs (1024 + u) < x → Facing S b l t forks g
-  facing_second z h = rw z (facing_two m.kept h)
+  pub second_beside : Beside S b x l (kept_at pairs.second u).low (kept_at pairs.second u).top forks g
+  second_beside = record { sound = m.sound; facing = facing_two m.kept }
 
   -- when more is tied, all is as it was
-  pub meeting_onward : (g' : List ℕ) → Sound S g' → StillClosed S g g' → Meeting S b x l u forks pairs g'
+  pub meeting_onward : (g' : Groups) → Sound S g' → StillClosed S g g' → Meeting S b x l u forks pairs g'
   meeting_onward g' s o =
       record {
         finished = m.finished;
@@ -149,43 +151,39 @@ module _ {S : Tree} {b x l u : ℕ} {forks pairs g : List ℕ} (m : Meeting S b 
         sound = s;
       }
 
-  -- What comes of it
+-- What comes of it
 
-  pub meet_none : x ≤ at pairs (0 + u) → Outcome S g g (MetApart S b x l u forks g) Holds
-  meet_none h = obeyed m.sound (closed_same S g) (met_apart g (λ z. absurd (omega arith)) (λ z. absurd (omega arith)))
+-- a link that can't be obeyed is passed on, whatever else was to be done
+pub torn_on : {S : Tree} {g h i : Groups} {done wanted : Type 0} {r : Result ⊤ Tear} {t : Tear} → Outcome S g h done (Err t) → IsErrAnd r (λ y. y ≡ t)
+    → Outcome S i h wanted r
+torn_on {S} {g} {h} {i} {done} {wanted} {r} {t} (unkept s k) e = rw (passed_on r e) (unkept s k)
 
-  pub meeting_then : {t : ℕ} {g₁ : List ℕ} → Outcome S g g₁ (Parted b l t forks g₁) Holds → Meeting S b x l u forks pairs g₁
-  meeting_then {t} {g₁} (obeyed s o d) = meeting_onward g₁ s o
+abbrev pub FirstParted : ℕ → ℕ → ℕ → ℕ → Forks → Pairs → Groups → Type 0
+FirstParted b x l u forks pairs g' = KeptParted b x l (kept_at pairs.first u).low (kept_at pairs.first u).top forks g'
 
-  pub meet_both : {t : ℕ} {g₁ g₂ : List ℕ} {r : Tie} → t ≡ at pairs (512 + u) → at pairs (0 + u) < x → Outcome S g g₁ (Parted b l t forks g₁) Holds
-      → Outcome S g₁ g₂ (SecondParted b x l u forks pairs g₂) r → Outcome S g g₂ (MetApart S b x l u forks g₂) r
-  meet_both {t} {g₁} {g₂} z h (obeyed s o d) (obeyed s' o' d') =
-      let c_in = (facing_first z h).other_return.is_back.0.below in
-      let b_in = m.arriving.1.return.is_back.0.below in
-      let d₂ : Parted b l t forks g₂ = λ w. o' t b different c_in b_in (d w) in
-      obeyed s' (closed_after S g g₁ g₂ o o') (met_apart g₂ (λ _. rw z at d₂) (λ _. d'))
-  meet_both z h (obeyed s o d) (unkept s' k) = unkept s' k
+pub meeting_then : {S : Tree} {b x l u : ℕ} {forks : Forks} {pairs : Pairs} {g g₁ : Groups} → Meeting S b x l u forks pairs g
+    → Outcome S g g₁ (FirstParted b x l u forks pairs g₁) (Ok tt) → Meeting S b x l u forks pairs g₁
+meeting_then {S} {b} {x} {l} {u} {forks} {pairs} {g} {g₁} m (obeyed s o d) = meeting_onward m g₁ s o
 
-  pub meet_torn : {t : ℕ} {g' : List ℕ} {q : Tie} {c d k : ℕ} → Outcome S g g' (Parted b l t forks g') q → q ≡ Tears c d k
-      → Outcome S g g' (MetApart S b x l u forks g') (Tears c d k)
-  meet_torn o e = torn o e
-
-  pub second_none : x ≤ at pairs (1024 + u) → Outcome S g g (SecondParted b x l u forks pairs g) Holds
-  second_none h = obeyed m.sound (closed_same S g) (λ z w. absurd (omega arith))
-
-  pub second_parted : {t : ℕ} {g' : List ℕ} {r : Tie} → t ≡ at pairs (1536 + u) → Outcome S g g' (Parted b l t forks g') r
-      → Outcome S g g' (SecondParted b x l u forks pairs g') r
-  second_parted z (obeyed s o d) = obeyed s o (λ _. rw z at d)
-  second_parted z (unkept s k) = unkept s k
+pub meet_both : {S : Tree} {b x l u : ℕ} {forks : Forks} {pairs : Pairs} {g g₁ g₂ : Groups} {r : Result ⊤ Tear} → Meeting S b x l u forks pairs g
+    → Outcome S g g₁ (FirstParted b x l u forks pairs g₁) (Ok tt) → Outcome S g₁ g₂ (SecondParted b x l u forks pairs g₂) r
+    → Outcome S g g₂ (MetApart S b x l u forks g₂) r
+meet_both {S} {b} {x} {l} {u} {forks} {pairs} {g} {g₁} {g₂} m (obeyed s o d) (obeyed s' o' d') =
+    let b_in = m.arriving.1.return.is_back.0.below in
+    let d₂ : FirstParted b x l u forks pairs g₂ =
+    λ h w. let F = (first_beside m).facing h in o' (kept_at pairs.first u).top b different F.other_return.is_back.0.below b_in (d h w) in
+    obeyed s' (closed_after S g g₁ g₂ o o') (met_apart m g₂ d₂ (λ _. d'))
+meet_both m (obeyed s o d) (unkept s' k) = unkept s' k
 
 -- Two lines apart
 
-module _ {S : Tree} {b l c : ℕ} {forks g : List ℕ} (F : Facing S b l c forks g) where
-  pub part_none : at forks (2048 + c) ≤ l → Outcome S g g (Parted b l c forks g) Holds
-  part_none h = obeyed F.sound (closed_same S g) (λ z. absurd (omega arith))
+pub part_none : {S : Tree} {b x l k c : ℕ} {forks : Forks} {g : Groups} → Beside S b x l k c forks g → (k < x → at forks.stop c ≤ l)
+    → Outcome S g g (KeptParted b x l k c forks g) (Ok tt)
+part_none {S} {b} {x} {l} {k} {c} {forks} {g} B h = obeyed B.sound (closed_same S g) (λ z w. let y = h z in absurd (omega arith))
 
+module _ {S : Tree} {b l c : ℕ} {forks : Forks} {g : Groups} (F : Facing S b l c forks g) where
   -- c ends higher than l: they overlap
-  pub part_link : l < at forks (2048 + c) → Tieable S b c different g
+  pub part_link : l < at forks.stop c → Tieable S b c different g
   part_link h =
       let t = top_is S F.other c F.other_return in
       let e : end S c ≡ high S F.other = subst (λ y. end S y ≡ high S F.other) F.other_top t.at_high in
@@ -197,6 +195,6 @@ module _ {S : Tree} {b l c : ℕ} {forks g : List ℕ} (F : Facing S b l c forks
         sound = F.sound;
       }
 
-  pub part_tied : {g' : List ℕ} {r : Tie} → Outcome S g g' (Closed (pointed g') b c different) r → Outcome S g g' (Parted b l c forks g') r
-  part_tied (obeyed s o d) = obeyed s o (λ z. closed_turned d)
+  pub part_tied : {x k : ℕ} {g' : Groups} {r : Result ⊤ Tear} → Outcome S g g' (Closed (pointed g') b c different) r → Outcome S g g' (KeptParted b x l k c forks g') r
+  part_tied (obeyed s o d) = obeyed s o (λ _ _. closed_turned d)
   part_tied (unkept s k) = unkept s k

@@ -1,5 +1,5 @@
 -- What the functions of this crate ask of each other. A reader of the calls' statements need not believe any of it.
-use Rattle.std.specs.Prelude.{List, ◌≡◌, ℕ, ◌+◌, ◌<◌}
+use Rattle.std.specs.Prelude.{◌≡◌, ℕ, ◌<◌}
 use Rattle.laws.specs.Lists.{at}
 use Rattle.side.specs.Sides.{different}
 use Rattle.tree.specs.Tree.{Tree}
@@ -8,11 +8,15 @@ use Rattle.tree.specs.Words.{Return}
 use Rattle.fork.specs.Ends.{high, top}
 use Rattle.fork.specs.Fork.{Fork}
 use Rattle.fork.specs.Inside.{Spans}
+use Rattle.fork.specs.declared.Forks.{Forks}
+use Rattle.meeting.specs.declared.Pairs.{Pairs}
+use Rattle.meeting.specs.Inside.{kept_at}
 use Rattle.groups.specs.Groups.{pointed}
+use Rattle.groups.specs.declared.Groups.{Groups}
 use Rattle.links.specs.Inside.{Closed, Sound}
 
 -- A line with the top b and the low l meets one with the top c, which leaves the same vertex and whose low is below its high.
-pub record Facing (S : Tree) (b l c : ℕ) (forks g : List ℕ) : Type 0 where
+pub record Facing (S : Tree) (b l c : ℕ) (forks : Forks) (g : Groups) : Type 0 where
   pub spans : Spans S forks
   pub sound : Sound S g
   pub line : ℕ
@@ -25,9 +29,17 @@ pub record Facing (S : Tree) (b l c : ℕ) (forks g : List ℕ) : Type 0 where
   pub under : low S other < high S line
 
 -- They are apart where c ends higher than l.
-abbrev pub Parted : ℕ → ℕ → ℕ → List ℕ → List ℕ → Type 0
-Parted b l c forks g' = l < at forks (2048 + c) → Closed (pointed g') c b different
+abbrev pub Parted : ℕ → ℕ → ℕ → Forks → Groups → Type 0
+Parted b l c forks g' = l < at forks.stop c → Closed (pointed g') c b different
 
--- The same of the second of the two kept at u, where its low is below x.
-abbrev pub SecondParted : ℕ → ℕ → ℕ → ℕ → List ℕ → List ℕ → List ℕ → Type 0
-SecondParted b x l u forks pairs g' = at pairs (1024 + u) < x → Parted b l (at pairs (1536 + u)) forks g'
+-- The same where c is the top of a line kept with the low k, which may be no lower than x: then nothing is asked of it, and nothing promised.
+pub record Beside (S : Tree) (b x l k c : ℕ) (forks : Forks) (g : Groups) : Type 0 where
+  pub sound : Sound S g
+  pub facing : k < x → Facing S b l c forks g
+
+abbrev pub KeptParted : ℕ → ℕ → ℕ → ℕ → ℕ → Forks → Groups → Type 0
+KeptParted b x l k c forks g' = k < x → Parted b l c forks g'
+
+-- The same of the second of the two kept at u.
+abbrev pub SecondParted : ℕ → ℕ → ℕ → ℕ → Forks → Pairs → Groups → Type 0
+SecondParted b x l u forks pairs g' = KeptParted b x l (kept_at pairs.second u).low (kept_at pairs.second u).top forks g'

@@ -5,6 +5,7 @@ use mathlib.Core.Logic.{◌⊎◌, inl, inr, ◌≢◌}
 use mathlib.Core.Path.{◌≡◌, sym, ◌∙◌, ap, subst}
 use Prim.Native.Nat.{ℕ, suc, ◌+◌, ◌≤◌, ◌<◌}
 use native.Mathlib.Omega.{arith}
+use Rattle.std.specs.Prelude.{Result, Ok, ⊤}
 use Rattle.laws.specs.Lists.{at}
 use Rattle.laws.proofs.Cases.{cases, bool, eq_or, lt_or, true_false}
 use Rattle.network.specs.Marks.{absent}
@@ -18,14 +19,16 @@ use Rattle.fork.specs.Ends.{Lowest, bottom}
 use Rattle.fork.specs.Link.{Link, to_bottom}
 use Rattle.fork.proofs.Ends.{bottom_is}
 use Rattle.groups.specs.Groups.{pointed}
+use Rattle.groups.specs.declared.Groups.{Groups}
 use Rattle.links.specs.Inside.{Closed, StillClosed, Outcome, obeyed, unkept, Tieable}
-use Rattle.links.specs.declared.Tie.{Tie}
-use Rattle.links.specs.declared.Tie.TheVariants.{Holds}
+use Rattle.links.specs.declared.Tear.{Tear}
 use Rattle.links.proofs.Closing.{closed_then, closed_same}
+use Rattle.fork.specs.declared.Forks.{Forks}
+use Rattle.spans.specs.declared.Jumps.{Jumps}
 use Rattle.rising.specs.Inside.{RisesBefore, Stands, Raised, Sunk, Settleable}
 use Rattle.rising.proofs.Passing.{line_up, passes, passed_by, passes_below, first_bottom}
 
-module _ {S : Tree} {b : ℕ} {heights jumps forks bottoms g : List ℕ} (s : Settleable S b heights jumps forks bottoms g) where
+module _ {S : Tree} {b : ℕ} {heights : List ℕ} {jumps : Jumps} {forks : Forks} {bottoms : List ℕ} {g : Groups} (s : Settleable S b heights jumps forks bottoms g) where
   X : Searched S
   X = s.sinkable.finished.searched
 
@@ -139,7 +142,7 @@ module _ {S : Tree} {b : ℕ} {heights jumps forks bottoms g : List ℕ} (s : Se
 
     -- (P4) a lowest return is tied to the bottom. If b is not the bottom of f it stopped above f or at it, at c; c ends as low, since it is a return
     -- of f too; so the two are tied, and c was tied to the bottom of f before.
-    module _ (g' : List ℕ) (onward : StillClosed S g g') (tied : (c ≡ absent → ⊥) → end S c ≡ end S b → Closed (pointed g') b c 0) where
+    module _ (g' : Groups) (onward : StillClosed S g g') (tied : (c ≡ absent → ⊥) → end S c ≡ end S b → Closed (pointed g') b c 0) where
       older : (f d : ℕ) → TreeLine S f → Lowest S f d → RisesBefore S (end S b) b d → (d ≡ bottom S f → ⊥) → Closed (pointed g') d (bottom S f) 0
       older f d t l p n =
           onward d (bottom S f) 0 l.return.is_back.0.below (bottom_is S f d l.return).return.is_back.0.below (s.raised.lowest f d t l p n)
@@ -181,27 +184,24 @@ module _ {S : Tree} {b : ℕ} {heights jumps forks bottoms g : List ℕ} (s : Se
 
     -- The three ways in which the turn ends
 
-    pub settled_alone : c ≡ absent → Outcome S g g (Raised S (end S b) (b + 1) bottoms' g) Holds
+    pub settled_alone : c ≡ absent → Outcome S g g (Raised S (end S b) (b + 1) bottoms' g) (Ok tt)
     settled_alone e = obeyed s.sound (closed_same S g) (raised_next g (closed_same S g) (λ d z. absurd (d e)))
 
     module _ (some : c ≡ absent → ⊥) where
       stopped : (c ≡ bottom S (S.parent k.stop)) × Return S (S.parent k.stop) c × (suc (end S b) < S.height k.stop) × (c ≡ at bottoms k.stop)
       stopped = cases k.why (λ q. absurd (some q.0)) (λ q. let m = met q.0 q.1 q.2 in (m.0, m.1, q.2, q.0))
 
-      pub settled_line : c < 2048
-      settled_line = let h = few in omega (arith, stopped.1.is_back.0.below)
-
-      stop_c : at forks (2048 + c) ≡ end S c
+      stop_c : at forks.stop c ≡ end S c
       stop_c = s.sinkable.spans.stops c stopped.1.is_back
 
-      stop_b : at forks (2048 + b) ≡ end S b
+      stop_b : at forks.stop b ≡ end S b
       stop_b = s.sinkable.spans.stops b back_line
 
-      pub settled_lower : (at forks (2048 + c) ≡ at forks (2048 + b) → ⊥) → Outcome S g g (Raised S (end S b) (b + 1) bottoms' g) Holds
+      pub settled_lower : (at forks.stop c ≡ at forks.stop b → ⊥) → Outcome S g g (Raised S (end S b) (b + 1) bottoms' g) (Ok tt)
       settled_lower d =
           obeyed s.sound (closed_same S g) (raised_next g (closed_same S g) (λ _ z. absurd (d (stop_c ∙ z ∙ sym stop_b))))
 
-      module _ (level : at forks (2048 + c) ≡ at forks (2048 + b)) where
+      module _ (level : at forks.stop c ≡ at forks.stop b) where
         pub settled_tieable : Tieable S b c same g
         settled_tieable =
             record {
@@ -210,10 +210,7 @@ module _ {S : Tree} {b : ℕ} {heights jumps forks bottoms g : List ℕ} (s : Se
               sound = s.sound;
             }
 
-        pub settled_tied : {g' : List ℕ} {r : Tie} → (Tieable S b c same g → Outcome S g g' (Closed (pointed g') b c 0) r)
+        pub settled_tied : {g' : Groups} {r : Result ⊤ Tear} → Outcome S g g' (Closed (pointed g') b c 0) r
             → Outcome S g g' (Raised S (end S b) (b + 1) bottoms' g') r
-        settled_tied {g'} taken = go (taken settled_tieable)
-          where
-            go : {r : Tie} → Outcome S g g' (Closed (pointed g') b c 0) r → Outcome S g g' (Raised S (end S b) (b + 1) bottoms' g') r
-            go (obeyed sound onward closed) = obeyed sound onward (raised_next g' onward (λ _ _. closed))
-            go (unkept sound torn) = unkept sound torn
+        settled_tied {g'} (obeyed sound onward closed) = obeyed sound onward (raised_next g' onward (λ _ _. closed))
+        settled_tied (unkept sound torn) = unkept sound torn

@@ -13,37 +13,20 @@ use Rattle.tree.specs.Tree.{Tree}
 use Rattle.tree.specs.Returns.{end}
 use Rattle.tree.specs.Words.{TreeLine, Above, Return}
 use Rattle.tree.specs.Searched.{Searched}
-use Rattle.fork.specs.Inside.{Named}
+use Rattle.fork.specs.declared.Forks.{Forks}
+use Rattle.spans.specs.declared.Jumps.{Jumps}
 use Rattle.fork.proofs.Found.{way_return, way_down}
 use Rattle.rising.specs.Inside.{Sinkable, SunkTo, Sunk}
 
-module _ {S : Tree} {b : ℕ} {heights jumps forks bottoms : List ℕ} (s : Sinkable S b heights jumps forks bottoms) where
+module _ {S : Tree} {b : ℕ} {heights : List ℕ} {jumps : Jumps} {forks : Forks} {bottoms : List ℕ} (s : Sinkable S b heights jumps forks bottoms) where
   X : Searched S
   X = s.finished.searched
 
-  stop_is : at forks (2048 + b) ≡ end S b
+  stop_is : at forks.stop b ≡ end S b
   stop_is = s.spans.stops b s.back_line
 
-  pub sink_limit : at forks (2048 + b) + 1 < 65536
-  sink_limit =
-      let i = X.source_in b s.back_line.0 in
-      omega (arith, stop_is, X.fall b s.back_line, X.height_small (S.source b) i, s.finished.few_vertices)
-
-  pub sink_start : {v : ℕ} → Named forks 0 b v → SunkTo S b bottoms bottoms v
-  sink_start {v} is =
-      let e : v ≡ S.source b = is.0 ∙ s.spans.sources b s.back_line.0.below in
-      subst (λ (x : ℕ). SunkTo S b bottoms bottoms x) (sym e)
-      (record {
-        long = s.long;
-        inside = X.source_in b s.back_line.0;
-        on_way = X.above_self (S.source b);
-        over = X.fall b s.back_line;
-        passed = λ v i a h. absurd (omega (arith, X.above_height v (S.source b) a));
-        others = λ v i n. refl;
-      })
-
   module _ {bottoms' : List ℕ} {v : ℕ} (w : SunkTo S b bottoms bottoms' v) where
-    pub sink_vertex : v < 512
+    sink_vertex : v < 512
     sink_vertex = omega (arith, w.inside, s.finished.few_vertices)
 
     height_is : at heights v ≡ S.height v
@@ -53,56 +36,55 @@ module _ {S : Tree} {b : ℕ} {heights jumps forks bottoms : List ℕ} (s : Sink
     here : at bottoms' v ≡ at bottoms v
     here = w.others v w.inside (λ a h. omega arith)
 
-    pub sink_end : at heights v ≤ at forks (2048 + b) + 1 → Sunk S b bottoms bottoms' absent
+    pub sink_end : at heights v ≤ at forks.stop b + 1 → Sunk S b bottoms bottoms' absent
     sink_end h = record { stop = v; way = w; why = inl (refl, omega (arith, height_is, stop_is)) }
 
-    module _ (high : at forks (2048 + b) + 1 < at heights v) {c : ℕ} (is_c : (c ≡ at bottoms' v) × (c < 65536)) where
-      pub sink_met : (c ≡ absent → ⊥) → Sunk S b bottoms bottoms' c
-      sink_met d = record { stop = v; way = w; why = inr (is_c.0 ∙ here, d, omega (arith, height_is, stop_is)) }
+    module _ (high : at forks.stop b + 1 < at heights v) where
+      pub sink_met : (at bottoms' v ≡ absent → ⊥) → Sunk S b bottoms bottoms' (at bottoms' v)
+      sink_met d = record { stop = v; way = w; why = inr (here, d, omega (arith, height_is, stop_is)) }
 
       way : TreeLine S (S.parent v) × (S.height v ≡ suc (S.height (S.source (S.parent v)))) × Return S (S.parent v) b
       way = way_return S X b s.back_line v w.inside w.on_way (omega (arith, stop_is, height_is))
 
-      module _ {x : ℕ} (is_x : Named jumps 0 v x) where
-        x_is : x ≡ S.source (S.parent v)
-        x_is = is_x.0 ∙ s.below.each v w.inside (omega (arith, way.1))
+      abbrev x : ℕ
+      x = at jumps.onward v
 
-        x_in : x < S.vertices
-        x_in = subst (λ (y : ℕ). y < S.vertices) (sym x_is) (X.source_in (S.parent v) way.0.0)
+      x_is : x ≡ S.source (S.parent v)
+      x_is = s.below.each v w.inside (omega (arith, way.1))
 
-        height_x : S.height v ≡ suc (S.height x)
-        height_x = way.1 ∙ ap (λ (y : ℕ). suc (S.height y)) (sym x_is)
+      x_in : x < S.vertices
+      x_in = subst (λ (y : ℕ). y < S.vertices) (sym x_is) (X.source_in (S.parent v) way.0.0)
 
-        pub sink_less : at heights x < at heights v
-        sink_less = omega (arith, height_x, height_is, s.each_height.each x x_in)
+      height_x : S.height v ≡ suc (S.height x)
+      height_x = way.1 ∙ ap (λ (y : ℕ). suc (S.height y)) (sym x_is)
 
-        pub sink_more : c ≡ absent → SunkTo S b bottoms (set bottoms' v b) x
-        sink_more none =
-            record {
-              long = length-set bottoms' v b ∙ w.long;
-              inside = x_in;
-              on_way = subst (λ (y : ℕ). Above S y (S.source b)) (sym x_is) (way_down S X b s.back_line v w.inside w.on_way (omega (arith, height_x)));
-              over = omega (arith, height_x, height_is, stop_is);
-              passed = λ u i a h.
-                  cases (eq_or u v)
-                  (λ e. (
-                    ap (at bottoms) e ∙ sym here ∙ sym is_c.0 ∙ none,
-                    ap (at (set bottoms' v b)) e ∙ get_or-set_same bottoms' v b 0 (omega (arith, w.long, sink_vertex)),
-                  ))
-                  (λ d.
-                  let q = w.passed u i a (higher u a d h) in
-                  (q.0, get_or-set_other bottoms' v u b 0 d ∙ q.1));
-              others = λ u i n.
-                  cases (eq_or u v)
-                  (λ e.
-                  absurd (n (subst (λ (y : ℕ). Above S y (S.source b)) (sym e) w.on_way)
-                  (let q : S.height u ≡ S.height v = ap S.height e in omega (arith, height_x))))
-                  (λ d. get_or-set_other bottoms' v u b 0 d ∙ w.others u i (λ a h. n a (omega (arith, height_x))));
-            }
-          where
-            -- what stands above x on the way and is not v stands above v
-            higher : (u : ℕ) → Above S u (S.source b) → (u ≡ v → ⊥) → S.height x < S.height u → S.height v < S.height u
-            higher u a d h =
-                cases (lt_or (S.height v) (S.height u))
-                (λ k. k)
-                (λ k. absurd (d (X.above_level u v (S.source b) a w.on_way (omega (arith, height_x)))))
+      pub sink_more : at bottoms' v ≡ absent → SunkTo S b bottoms (set bottoms' v b) x
+      sink_more none =
+          record {
+            long = length-set bottoms' v b ∙ w.long;
+            inside = x_in;
+            on_way = subst (λ (y : ℕ). Above S y (S.source b)) (sym x_is) (way_down S X b s.back_line v w.inside w.on_way (omega (arith, height_x)));
+            over = omega (arith, height_x, height_is, stop_is);
+            passed = λ u i a h.
+                cases (eq_or u v)
+                (λ e. (
+                  ap (at bottoms) e ∙ sym here ∙ none,
+                  ap (at (set bottoms' v b)) e ∙ get_or-set_same bottoms' v b 0 (omega (arith, w.long, sink_vertex)),
+                ))
+                (λ d.
+                let q = w.passed u i a (higher u a d h) in
+                (q.0, get_or-set_other bottoms' v u b 0 d ∙ q.1));
+            others = λ u i n.
+                cases (eq_or u v)
+                (λ e.
+                absurd (n (subst (λ (y : ℕ). Above S y (S.source b)) (sym e) w.on_way)
+                (let q : S.height u ≡ S.height v = ap S.height e in omega (arith, height_x))))
+                (λ d. get_or-set_other bottoms' v u b 0 d ∙ w.others u i (λ a h. n a (omega (arith, height_x))));
+          }
+        where
+          -- what stands above x on the way and is not v stands above v
+          higher : (u : ℕ) → Above S u (S.source b) → (u ≡ v → ⊥) → S.height x < S.height u → S.height v < S.height u
+          higher u a d h =
+              cases (lt_or (S.height v) (S.height u))
+              (λ k. k)
+              (λ k. absurd (d (X.above_level u v (S.source b) a w.on_way (omega (arith, height_x)))))

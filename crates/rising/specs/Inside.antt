@@ -1,5 +1,5 @@
 -- What functions inside ask of each other. A reader of the calls' statements need not believe any of it.
-use Rattle.std.specs.Prelude.{List, ◌⊎◌, ◌≡◌, ℕ, suc, ◌≤◌, ◌<◌, length}
+use Rattle.std.specs.Prelude.{List, Option, Some, None, ◌⊎◌, ◌≡◌, ℕ, suc, ◌≤◌, ◌<◌, length}
 use Rattle.laws.specs.Lists.{at}
 use Rattle.network.specs.Marks.{absent}
 use Rattle.side.specs.Sides.{same}
@@ -8,9 +8,12 @@ use Rattle.tree.specs.Returns.{end}
 use Rattle.tree.specs.Words.{TreeLine, BackLine, Above, Return}
 use Rattle.fork.specs.Ends.{Lowest, bottom}
 use Rattle.fork.specs.Inside.{Finished, Heights, Spans, Buckets}
+use Rattle.fork.specs.declared.Forks.{Forks}
 use Rattle.groups.specs.Groups.{pointed}
+use Rattle.groups.specs.declared.Groups.{Groups}
 use Rattle.links.specs.Inside.{Closed, Sound}
 use Rattle.spans.specs.Inside.{Below}
+use Rattle.spans.specs.declared.Jumps.{Jumps}
 
 -- The bottom of the tree line up to each vertex, where it has a return.
 pub record Bottoms (S : Tree) (bottoms : List ℕ) : Type 0 where
@@ -19,7 +22,7 @@ pub record Bottoms (S : Tree) (bottoms : List ℕ) : Type 0 where
   pub none : (v : ℕ) → v < S.vertices → 0 < S.height v → ((b : ℕ) → Return S (S.parent v) b → ⊥) → at bottoms v ≡ absent
 
 -- What the walk by rising ends goes by.
-pub record Rising (S : Tree) (vertices : ℕ) (heights jumps heads nexts forks bottoms g : List ℕ) : Type 0 where
+pub record Rising (S : Tree) (vertices : ℕ) (heights : List ℕ) (jumps : Jumps) (heads nexts : List ℕ) (forks : Forks) (bottoms : List ℕ) (g : Groups) : Type 0 where
   pub same_vertices : S.vertices ≡ vertices
   pub finished : Finished S
   pub each_height : Heights S heights
@@ -31,7 +34,7 @@ pub record Rising (S : Tree) (vertices : ℕ) (heights jumps heads nexts forks b
   pub sound : Sound S g
 
 -- What it leaves: the bottoms, and the lowest returns of each tree line tied to its bottom.
-pub record Risen (S : Tree) (bottoms' g' : List ℕ) : Type 0 where
+pub record Risen (S : Tree) (bottoms' : List ℕ) (g' : Groups) : Type 0 where
   pub each_bottom : Bottoms S bottoms'
   pub lowest : (f b : ℕ) → TreeLine S f → Lowest S f b → (b ≡ bottom S f → ⊥) → Closed (pointed g') b (bottom S f) same
 
@@ -44,13 +47,13 @@ abbrev pub Stands : Tree → ℕ → ℕ → ℕ → ℕ → Type 0
 Stands S x b f c = ((c ≡ absent) × ((d : ℕ) → Return S f d → RisesBefore S x b d → ⊥)) ⊎ ((c ≡ bottom S f) × Return S f c × RisesBefore S x b c)
 
 -- The tables when the back lines before b were taken.
-pub record Raised (S : Tree) (x b : ℕ) (bottoms g : List ℕ) : Type 0 where
+pub record Raised (S : Tree) (x b : ℕ) (bottoms : List ℕ) (g : Groups) : Type 0 where
   pub long : length bottoms ≡ 512
   pub each : (v : ℕ) → v < S.vertices → 0 < S.height v → Stands S x b (S.parent v) (at bottoms v)
   pub lowest : (f c : ℕ) → TreeLine S f → Lowest S f c → RisesBefore S x b c → (c ≡ bottom S f → ⊥) → Closed (pointed g) c (bottom S f) same
 
 -- What one back line's way down goes by.
-pub record Sinkable (S : Tree) (b : ℕ) (heights jumps forks bottoms : List ℕ) : Type 0 where
+pub record Sinkable (S : Tree) (b : ℕ) (heights : List ℕ) (jumps : Jumps) (forks : Forks) (bottoms : List ℕ) : Type 0 where
   pub finished : Finished S
   pub each_height : Heights S heights
   pub below : Below S jumps
@@ -67,6 +70,11 @@ pub record SunkTo (S : Tree) (b : ℕ) (bottoms bottoms' : List ℕ) (stop : ℕ
   pub passed : (v : ℕ) → v < S.vertices → Above S v (S.source b) → S.height stop < S.height v → (at bottoms v ≡ absent) × (at bottoms' v ≡ b)
   pub others : (v : ℕ) → v < S.vertices → (Above S v (S.source b) → S.height stop < S.height v → ⊥) → at bottoms' v ≡ at bottoms v
 
+-- What stopped it, as a table has it: nothing is the mark.
+abbrev pub marked : Option ℕ → ℕ
+marked None = absent
+marked (Some c) = c
+
 -- .. and why: it came to its end, or to a tree line that has a bottom, c.
 pub record Sunk (S : Tree) (b : ℕ) (bottoms bottoms' : List ℕ) (c : ℕ) : Type 0 where
   pub stop : ℕ
@@ -74,7 +82,7 @@ pub record Sunk (S : Tree) (b : ℕ) (bottoms bottoms' : List ℕ) (c : ℕ) : T
   pub why : ((c ≡ absent) × (S.height stop ≤ suc (end S b))) ⊎ ((c ≡ at bottoms stop) × (c ≡ absent → ⊥) × (suc (end S b) < S.height stop))
 
 -- A back line's turn.
-pub record Settleable (S : Tree) (b : ℕ) (heights jumps forks bottoms g : List ℕ) : Type 0 where
+pub record Settleable (S : Tree) (b : ℕ) (heights : List ℕ) (jumps : Jumps) (forks : Forks) (bottoms : List ℕ) (g : Groups) : Type 0 where
   pub sinkable : Sinkable S b heights jumps forks bottoms
   pub raised : Raised S (end S b) b bottoms g
   pub sound : Sound S g

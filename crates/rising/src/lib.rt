@@ -5,100 +5,93 @@
 // the two are tied.
 #![tactic(auto)]
 
-ghost use Rattle.std.specs.Prelude.{ℕ, ◌+◌};
+ghost use Rattle.std.specs.Prelude.{◌+◌, ◌≢◌, IfSome};
+ghost use Rattle.network.specs.Marks.{absent};
 ghost use Rattle.tree.specs.Returns.{end};
-ghost use Rattle.fork.specs.Inside.{SomeTree, EachTree};
+ghost use Rattle.tree.specs.Tree.{Tree};
 ghost use Rattle.links.specs.Inside.{Outcome};
-ghost use Rattle.rising.specs.Inside.{Rising, Risen, Raised, Sinkable, Sunk, Settleable};
+ghost use Rattle.rising.specs.Inside.{Rising, Risen, Raised, Sinkable, Sunk, marked, Settleable};
 
-use fork::columns::{STOP, source};
-use links::Tie;
-use network::{Absent, wide};
+use fork::Forks;
+use groups::Groups;
+use links::Tear;
+use network::Absent;
+use network::chains::Chains;
 use side::Wants;
-use spans::columns::onward;
+use spans::Jumps;
 
 // Takes the back lines by rising ends, and those of one end by rising numbers.
 pub fn rise(
     vertices: usize,
     heights: &[u16; 512],
-    jumps: &[u16; 1536],
-    heads: &[u16; 513],
-    nexts: &[u16; 2048],
-    forks: &[u16; 10240],
+    jumps: &Jumps,
+    chains: &Chains<513, 2048>,
+    forks: &Forks,
     bottoms: &mut [u16; 512],
-    groups: &mut [u16; 8192],
-) -> Tie
-    requires { SomeTree (λ S. Rising S vertices heights.now jumps.now heads.now nexts.now forks.now bottoms.old groups.old) }
-    ensures { EachTree (λ S. Rising S vertices heights.now jumps.now heads.now nexts.now forks.now
-        bottoms.old groups.old)
-        (λ S. Outcome S groups.old groups.new (Risen S bottoms.new groups.new) result) }
+    groups: &mut Groups,
+) -> Result<(), Tear>
+    ghost S: { Tree }
+    requires { Rising S vertices heights.now jumps.now chains.now.heads chains.now.nexts forks.now bottoms.old groups.old }
+    ensures { Outcome S groups.old groups.new (Risen S bottoms.new groups.new) result }
 {
     if vertices == 0 {
-        return Tie::Holds;
+        return Ok(());
     }
     // no back line ends as high as the highest vertex can stand: that chain is empty, and has the mark that ends every chain
-    let none = wide(heads[vertices - 1]);
-    let mut x = 0;
-    let mut b = wide(heads[0]);
-    while x < vertices {
-        if b < none {
-            match settle(b, heights, jumps, forks, bottoms, groups) {
-                Tie::Holds => {}
-                Tie::Tears(p, q, k) => return Tie::Tears(p, q, k),
-            }
-            b = wide(nexts[b]);
-        } else {
-            x += 1;
-            b = wide(heads[x]);
+    let none = chains.heads[vertices - 1] as usize;
+    for x in 0..vertices {
+        let mut b = chains.heads[x] as usize;
+        while b < none {
+            settle(b, heights, jumps, forks, bottoms, groups)?;
+            b = chains.nexts[b] as usize;
         }
     }
-    Tie::Holds
+    Ok(())
 }
 
 // Takes back line b: it is made a bottom, and tied to the bottom that stopped it, if that ends as low.
 fn settle(
     b: usize,
     heights: &[u16; 512],
-    jumps: &[u16; 1536],
-    forks: &[u16; 10240],
+    jumps: &Jumps,
+    forks: &Forks,
     bottoms: &mut [u16; 512],
-    groups: &mut [u16; 8192],
-) -> Tie
-    requires { SomeTree (λ S. Settleable S b heights.now jumps.now forks.now bottoms.old groups.old) }
-    ensures { EachTree (λ S. Settleable S b heights.now jumps.now forks.now bottoms.old groups.old)
-        (λ S. Outcome S groups.old groups.new (Raised S (end S b) (b + 1) bottoms.new groups.new) result) }
+    groups: &mut Groups,
+) -> Result<(), Tear>
+    ghost S: { Tree }
+    requires { Settleable S b heights.now jumps.now forks.now bottoms.old groups.old }
+    ensures { Outcome S groups.old groups.new (Raised S (end S b) (b + 1) bottoms.new groups.new) result }
 {
-    let c = sink(b, heights, jumps, forks, bottoms);
-    if c == Absent::INDEX {
-        return Tie::Holds;
+    let Some(c) = sink(b, heights, jumps, forks, bottoms) else {
+        return Ok(());
+    };
+    if forks.stop[c] != forks.stop[b] {
+        return Ok(());
     }
-    if forks[STOP + c] != forks[STOP + b] {
-        return Tie::Holds;
-    }
-    links::take(b, c, Wants::SAME, groups)
+    links::take(b, c, Wants::Same, groups)
 }
 
-// Makes b the bottom of each tree line on its way down that has none, as far as the first that has one, and answers which.
+// Makes b the bottom of each tree line on its way down that has none, as far as the first that has one, and answers with the bottom of that one.
 fn sink(
     b: usize,
     heights: &[u16; 512],
-    jumps: &[u16; 1536],
-    forks: &[u16; 10240],
+    jumps: &Jumps,
+    forks: &Forks,
     bottoms: &mut [u16; 512],
-) -> usize
-    requires { SomeTree (λ S. Sinkable S b heights.now jumps.now forks.now bottoms.old) }
-    ensures { EachTree (λ S. Sinkable S b heights.now jumps.now forks.now bottoms.old)
-        (λ S. Sunk S b bottoms.old bottoms.new result) }
+) -> Option<usize>
+    ghost S: { Tree }
+    requires { Sinkable S b heights.now jumps.now forks.now bottoms.old }
+    ensures sunk { Sunk S b bottoms.old bottoms.new (marked result) }
+    ensures met { IfSome result (λ c. c ≢ absent) }
 {
-    let limit = forks[STOP + b] + 1;
-    let mut v = source(forks, b);
+    let limit = forks.stop[b] + 1;
+    let mut v = forks.source[b] as usize;
     while limit < heights[v] {
-        let c = wide(bottoms[v]);
-        if c != Absent::INDEX {
-            return c;
+        if bottoms[v] != Absent::ENTRY {
+            return Some(bottoms[v] as usize);
         }
         bottoms[v] = b as u16;
-        v = onward(jumps, v);
+        v = jumps.onward[v] as usize;
     }
-    Absent::INDEX
+    None
 }

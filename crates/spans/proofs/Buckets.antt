@@ -11,17 +11,18 @@ use Rattle.tree.specs.Tree.{Tree}
 use Rattle.tree.specs.Returns.{end}
 use Rattle.tree.specs.Words.{BackLine}
 use Rattle.fork.specs.Inside.{Finished, Spans, Buckets}
+use Rattle.fork.specs.declared.Forks.{Forks}
 
-module _ (S : Tree) (fin : Finished S) (forks : List ℕ) (spans : Spans S forks) where
+module _ (S : Tree) (fin : Finished S) (forks : Forks) (spans : Spans S forks) where
   -- a back line ends at a height, a tree line at none
-  stop_cases : (k : ℕ) → k < S.lines → (BackLine S k × (at forks (2048 + k) ≡ end S k) × (end S k < S.vertices)) ⊎ (at forks (2048 + k) ≡ 512)
+  stop_cases : (k : ℕ) → k < S.lines → (BackLine S k × (at forks.stop k ≡ end S k) × (end S k < S.vertices)) ⊎ (at forks.stop k ≡ 512)
   stop_cases k h =
       let l = fin.every k h in
       cases (bool (S.tree k))
       (λ t. inr (spans.no_stops k (l, t)))
       (λ t. inl ((l, t), spans.stops k (l, t), fin.searched.height_small (S.target k) (fin.searched.target_in k l)))
 
-  pub spans_chainable : Chainable 513 2048 S.lines (λ k. at forks (2048 + k))
+  pub spans_chainable : Chainable 513 2048 S.lines (at forks.stop)
   spans_chainable =
       record {
         few = fin.few_lines;
@@ -29,13 +30,13 @@ module _ (S : Tree) (fin : Finished S) (forks : List ℕ) (spans : Spans S forks
       }
 
   -- (B) the chain of x has the back lines that end at x, rising: what it comes to next is such a line, and there is none between
-  pub chain_line : (x i k : ℕ) → x < S.vertices → Follows S.lines (λ j. at forks (2048 + j)) x i k → k < S.lines → BackLine S k × (end S k ≡ x)
+  pub chain_line : (x i k : ℕ) → x < S.vertices → Follows S.lines (at forks.stop) x i k → k < S.lines → BackLine S k × (end S k ≡ x)
   chain_line x i k x_in f h =
       let e = f.at h in
       let few = fin.few_vertices in
       cases (stop_cases k h) (λ q. (q.0, omega (arith, q.1))) (λ n. absurd (omega arith))
 
-  pub chain_between : (x i k b : ℕ) → Follows S.lines (λ j. at forks (2048 + j)) x i k → BackLine S b → end S b ≡ x → i ≤ b → b < k → ⊥
+  pub chain_between : (x i k b : ℕ) → Follows S.lines (at forks.stop) x i k → BackLine S b → end S b ≡ x → i ≤ b → b < k → ⊥
   chain_between x i k b f l e h g = f.between b h g (spans.stops b l ∙ e)
 
   -- no back line ends as high as a vertex can stand: that chain is empty, and its head is the number of lines

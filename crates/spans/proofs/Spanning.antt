@@ -15,67 +15,20 @@ use Rattle.network.specs.Network.{first, second}
 use Rattle.tree.specs.Tree.{Tree, higher, lower}
 use Rattle.tree.specs.Returns.{end}
 use Rattle.tree.specs.Words.{TreeLine, BackLine}
+use Rattle.fork.specs.Inside.{Long}
+use Rattle.fork.specs.declared.Forks.{Forks}
 use Rattle.spans.specs.Inside.{Spannable, Spanned}
 
--- Five columns, written at one line
+-- a column is written at line k, and not at another
+module _ (column : List ℕ) (k x : ℕ) (long : length column ≡ 2048) where
+  same_long : length (set column k x) ≡ 2048
+  same_long = length-set column k x ∙ long
 
-module _ (t : List ℕ) (k l p o h q : ℕ) (long : length t ≡ 10240) (small : k < 2048) where
-  abbrev one : List ℕ
-  one = set t (0 + k) l
+  here : k < 2048 → at (set column k x) k ≡ x
+  here h = get_or-set_same column k x 0 (omega arith)
 
-  abbrev two : List ℕ
-  two = set one (2048 + k) p
-
-  abbrev three : List ℕ
-  three = set two (4096 + k) o
-
-  abbrev four : List ℕ
-  four = set three (6144 + k) h
-
-  abbrev five : List ℕ
-  five = set four (8192 + k) q
-
-  long₁ : length one ≡ 10240
-  long₁ = length-set t (0 + k) l ∙ long
-
-  long₂ : length two ≡ 10240
-  long₂ = length-set one (2048 + k) p ∙ long₁
-
-  long₃ : length three ≡ 10240
-  long₃ = length-set two (4096 + k) o ∙ long₂
-
-  long₄ : length four ≡ 10240
-  long₄ = length-set three (6144 + k) h ∙ long₃
-
-  all_long : length five ≡ 10240
-  all_long = length-set four (8192 + k) q ∙ long₄
-
-  new_source : at five (0 + k) ≡ l
-  new_source =
-      get_or-set_other four (8192 + k) (0 + k) q 0 (λ e. omega arith) ∙ get_or-set_other three (6144 + k) (0 + k) h 0 (λ e. omega arith)
-      ∙ get_or-set_other two (4096 + k) (0 + k) o 0 (λ e. omega arith) ∙ get_or-set_other one (2048 + k) (0 + k) p 0 (λ e. omega arith)
-      ∙ get_or-set_same t (0 + k) l 0 (omega arith)
-
-  new_stop : at five (2048 + k) ≡ p
-  new_stop =
-      get_or-set_other four (8192 + k) (2048 + k) q 0 (λ e. omega arith) ∙ get_or-set_other three (6144 + k) (2048 + k) h 0 (λ e. omega arith)
-      ∙ get_or-set_other two (4096 + k) (2048 + k) o 0 (λ e. omega arith) ∙ get_or-set_same one (2048 + k) p 0 (omega (arith, long₁))
-
-  new_low : at five (4096 + k) ≡ o
-  new_low =
-      get_or-set_other four (8192 + k) (4096 + k) q 0 (λ e. omega arith) ∙ get_or-set_other three (6144 + k) (4096 + k) h 0 (λ e. omega arith)
-      ∙ get_or-set_same two (4096 + k) o 0 (omega (arith, long₂))
-
-  new_high : at five (6144 + k) ≡ h
-  new_high = get_or-set_other four (8192 + k) (6144 + k) q 0 (λ e. omega arith) ∙ get_or-set_same three (6144 + k) h 0 (omega (arith, long₃))
-
-  new_top : at five (8192 + k) ≡ q
-  new_top = get_or-set_same four (8192 + k) q 0 (omega (arith, long₄))
-
-  not_new : (i : ℕ) → (i ≡ 0 + k → ⊥) → (i ≡ 2048 + k → ⊥) → (i ≡ 4096 + k → ⊥) → (i ≡ 6144 + k → ⊥) → (i ≡ 8192 + k → ⊥) → at five i ≡ at t i
-  not_new i a b c d e =
-      get_or-set_other four (8192 + k) i q 0 e ∙ get_or-set_other three (6144 + k) i h 0 d ∙ get_or-set_other two (4096 + k) i o 0 c
-      ∙ get_or-set_other one (2048 + k) i p 0 b ∙ get_or-set_other t (0 + k) i l 0 a
+  there : (j : ℕ) → (j ≡ k → ⊥) → at (set column k x) j ≡ at column j
+  there j d = get_or-set_other column k j x 0 d
 
 -- what the columns are to have for line j
 pub record Told (S : Tree) (j leaves stop low high top : ℕ) : Type 0 where
@@ -84,15 +37,12 @@ pub record Told (S : Tree) (j leaves stop low high top : ℕ) : Type 0 where
   pub back : BackLine S j → (stop ≡ end S j) × (high ≡ end S j) × (top ≡ j) × (low ≡ end S j)
 
 -- the lines before k have theirs
-pub record Spanning (S : Tree) (t : List ℕ) (k : ℕ) : Type 0 where
-  pub long : length t ≡ 10240
-  pub each : (j : ℕ) → j < k → Told S j (at t (0 + j)) (at t (2048 + j)) (at t (4096 + j)) (at t (6144 + j)) (at t (8192 + j))
+pub record Spanning (S : Tree) (t : Forks) (k : ℕ) : Type 0 where
+  pub long : Long t
+  pub each : (j : ℕ) → j < k → Told S j (at t.source j) (at t.stop j) (at t.low j) (at t.high j) (at t.top j)
 
-module _ {S : Tree} {lines : ℕ} {ends kinds heights forks₀ : List ℕ} (s : Spannable S lines ends kinds heights forks₀) where
-  pub spanning_start : Spanning S forks₀ 0
-  spanning_start = record { long = s.long; each = λ j h. absurd (omega arith) }
-
-  module _ {t : List ℕ} {k : ℕ} (w : Spanning S t k) where
+module _ {S : Tree} {lines : ℕ} {ends kinds heights : List ℕ} {forks₀ : Forks} (s : Spannable S lines ends kinds heights forks₀) where
+  module _ {t : Forks} {k : ℕ} (w : Spanning S t k) where
     pub spanning_done : lines ≤ k → Spanned S t
     spanning_done h =
         let e = s.same_lines in
@@ -119,98 +69,98 @@ module _ {S : Tree} {lines : ℕ} {ends kinds heights forks₀ : List ℕ} (s : 
       inside : k < S.lines
       inside = omega (arith, s.same_lines)
 
-      module _ {x : ℕ} (is_x : (x ≡ first ends k) × (x < 65536)) where
-        pub spanning_first : x < 512
-        spanning_first = omega (arith, s.ended.first_in k inside, is_x.0)
+      abbrev forward : Bool
+      forward = beq (ltb (at heights (first ends k)) (at heights (second ends k))) (eqb (at kinds k) 0)
 
-        module _ {y : ℕ} (is_y : (y ≡ second ends k) × (y < 65536)) where
-          pub spanning_second : y < 512
-          spanning_second = omega (arith, s.ended.second_in k inside, is_y.0)
+      module _ {o l p h q : ℕ} (is_o : o ≡ cond forward (at heights (second ends k)) (at heights (first ends k))) (is_l : l ≡ cond forward (first ends k) (second ends k))
+          (is_p : p ≡ cond (eqb (at kinds k) 0) 512 o) (is_h : h ≡ cond (eqb (at kinds k) 0) 0 o) (is_q : q ≡ cond (eqb (at kinds k) 0) lines k) where
+        -- the line runs from its first end to its second where it is a tree line with the second higher, or a back line without
+        tree_source : at kinds k ≡ 0 → l ≡ lower ends heights k
+        unfolding lower
+        tree_source e =
+            cases (bool (ltb (at heights (first ends k)) (at heights (second ends k))))
+            (λ b. is_l ∙ (rw (eq-eqb (at kinds k) 0 e, b)))
+            (λ b. is_l ∙ (rw (eq-eqb (at kinds k) 0 e, b)))
 
-          abbrev forward : Bool
-          forward = beq (ltb (at heights x) (at heights y)) (eqb (at kinds k) 0)
+        back_source : (at kinds k ≡ 0 → ⊥) → l ≡ higher ends heights k
+        unfolding higher
+        back_source d =
+            cases (bool (ltb (at heights (first ends k)) (at heights (second ends k))))
+            (λ b. is_l ∙ (rw (ne_eqb (at kinds k) 0 d, b)))
+            (λ b. is_l ∙ (rw (ne_eqb (at kinds k) 0 d, b)))
 
-          module _ {o l p h q : ℕ} (is_o : o ≡ cond forward (at heights y) (at heights x)) (is_l : l ≡ cond forward (first ends k) (second ends k))
-              (is_p : p ≡ cond (eqb (at kinds k) 0) 512 o) (is_h : h ≡ cond (eqb (at kinds k) 0) 0 o) (is_q : q ≡ cond (eqb (at kinds k) 0) lines k) where
-            -- the line runs from its first end to its second where it is a tree line with the second higher, or a back line without
-            tree_source : at kinds k ≡ 0 → l ≡ lower ends heights k
-            unfolding lower
-            tree_source e =
-                cases (bool (ltb (at heights (first ends k)) (at heights (second ends k))))
-                (λ b. is_l ∙ (rw (is_x.0, is_y.0, eq-eqb (at kinds k) 0 e, b)))
-                (λ b. is_l ∙ (rw (is_x.0, is_y.0, eq-eqb (at kinds k) 0 e, b)))
+        back_end : (at kinds k ≡ 0 → ⊥) → o ≡ at heights (lower ends heights k)
+        unfolding lower
+        back_end d =
+            cases (bool (ltb (at heights (first ends k)) (at heights (second ends k))))
+            (λ b. is_o ∙ (rw (ne_eqb (at kinds k) 0 d, b)))
+            (λ b. is_o ∙ (rw (ne_eqb (at kinds k) 0 d, b)))
 
-            back_source : (at kinds k ≡ 0 → ⊥) → l ≡ higher ends heights k
-            unfolding higher
-            back_source d =
-                cases (bool (ltb (at heights (first ends k)) (at heights (second ends k))))
-                (λ b. is_l ∙ (rw (is_x.0, is_y.0, ne_eqb (at kinds k) 0 d, b)))
-                (λ b. is_l ∙ (rw (is_x.0, is_y.0, ne_eqb (at kinds k) 0 d, b)))
+        told : Told S k l p o h q
+        told =
+            cases (eq_or (at kinds k) 0)
+            (λ e.
+            let line = s.each_kind.tree k inside e in
+            record {
+              source = tree_source e ∙ sym (s.ended.tree_source k line);
+              tree = λ z. (
+                is_p ∙ (rw (eq-eqb (at kinds k) 0 e)),
+                is_h ∙ (rw (eq-eqb (at kinds k) 0 e)),
+                is_q ∙ (rw (eq-eqb (at kinds k) 0 e) (sym s.same_lines)),
+              );
+              back = λ z. true_false line.1 z.1;
+            })
+            (λ d.
+            let line = s.each_kind.back k inside d in
+            let stop : o ≡ end S k =
+            back_end d ∙ ap (at heights) (sym (s.ended.back_target k line))
+            ∙ s.each_height.each (S.target k) (s.finished.searched.target_in k line.0) in
+            record {
+              source = back_source d ∙ sym (s.ended.back_source k line);
+              tree = λ z. true_false z.1 line.1;
+              back = λ z. (
+                is_p ∙ (rw (ne_eqb (at kinds k) 0 d) stop),
+                is_h ∙ (rw (ne_eqb (at kinds k) 0 d) stop),
+                is_q ∙ (rw (ne_eqb (at kinds k) 0 d)),
+                stop,
+              );
+            })
 
-            back_end : (at kinds k ≡ 0 → ⊥) → o ≡ at heights (lower ends heights k)
-            unfolding lower
-            back_end d =
-                cases (bool (ltb (at heights (first ends k)) (at heights (second ends k))))
-                (λ b. is_o ∙ (rw (is_x.0, is_y.0, ne_eqb (at kinds k) 0 d, b)))
-                (λ b. is_o ∙ (rw (is_x.0, is_y.0, ne_eqb (at kinds k) 0 d, b)))
+        abbrev next : Forks
+        next = record { source = set t.source k l; stop = set t.stop k p; low = set t.low k o; high = set t.high k h; top = set t.top k q }
 
-            told : Told S k l p o h q
-            told =
-                cases (eq_or (at kinds k) 0)
-                (λ e.
-                let line = s.each_kind.tree k inside e in
-                record {
-                  source = tree_source e ∙ sym (s.ended.tree_source k line);
-                  tree = λ z. (
-                    is_p ∙ (rw (eq-eqb (at kinds k) 0 e)),
-                    is_h ∙ (rw (eq-eqb (at kinds k) 0 e)),
-                    is_q ∙ (rw (eq-eqb (at kinds k) 0 e) (sym s.same_lines)),
-                  );
-                  back = λ z. true_false line.1 z.1;
-                })
-                (λ d.
-                let line = s.each_kind.back k inside d in
-                let stop : o ≡ end S k =
-                back_end d ∙ ap (at heights) (sym (s.ended.back_target k line))
-                ∙ s.each_height.each (S.target k) (s.finished.searched.target_in k line.0) in
-                record {
-                  source = back_source d ∙ sym (s.ended.back_source k line);
-                  tree = λ z. true_false z.1 line.1;
-                  back = λ z. (
-                    is_p ∙ (rw (ne_eqb (at kinds k) 0 d) stop),
-                    is_h ∙ (rw (ne_eqb (at kinds k) 0 d) stop),
-                    is_q ∙ (rw (ne_eqb (at kinds k) 0 d)),
-                    stop,
-                  );
-                })
-
-            pub spanning_more : Spanning S (set (set (set (set (set t (0 + k) l) (2048 + k) p) (4096 + k) o) (6144 + k) h) (8192 + k) q) (k + 1)
-            spanning_more =
-                let small = place_in in
-                let long = w.long in
-                record {
-                  long = all_long t k l p o h q long small;
-                  each = λ j i.
-                      cases (eq_or j k)
-                      (λ e.
-                      rw (
-                        e,
-                        new_source t k l p o h q long small,
-                        new_stop t k l p o h q long small,
-                        new_low t k l p o h q long small,
-                        new_high t k l p o h q long small,
-                        new_top t k l p o h q long small,
-                      )
-                      told)
-                      (λ d.
-                      let d' : j ≢ k = d in
-                      let other = not_new t k l p o h q long small in
-                      rw (
-                        other (0 + j) (λ e. omega arith) (λ e. omega arith) (λ e. omega arith) (λ e. omega arith) (λ e. omega arith),
-                        other (2048 + j) (λ e. omega arith) (λ e. omega arith) (λ e. omega arith) (λ e. omega arith) (λ e. omega arith),
-                        other (4096 + j) (λ e. omega arith) (λ e. omega arith) (λ e. omega arith) (λ e. omega arith) (λ e. omega arith),
-                        other (6144 + j) (λ e. omega arith) (λ e. omega arith) (λ e. omega arith) (λ e. omega arith) (λ e. omega arith),
-                        other (8192 + j) (λ e. omega arith) (λ e. omega arith) (λ e. omega arith) (λ e. omega arith) (λ e. omega arith),
-                      )
-                      (w.each j (omega arith)));
-                }
+        pub spanning_more : Spanning S next (k + 1)
+        spanning_more =
+            let small = place_in in
+            let long = w.long in
+            record {
+              long = record {
+                sources = same_long t.source k l long.sources;
+                stops = same_long t.stop k p long.stops;
+                lows = same_long t.low k o long.lows;
+                highs = same_long t.high k h long.highs;
+                tops = same_long t.top k q long.tops;
+              };
+              each = λ j i.
+                  cases (eq_or j k)
+                  (λ e.
+                  rw (
+                    e,
+                    here t.source k l long.sources small,
+                    here t.stop k p long.stops small,
+                    here t.low k o long.lows small,
+                    here t.high k h long.highs small,
+                    here t.top k q long.tops small,
+                  )
+                  told)
+                  (λ d.
+                  let d' : j ≢ k = d in
+                  rw (
+                    there t.source k l long.sources j d,
+                    there t.stop k p long.stops j d,
+                    there t.low k o long.lows j d,
+                    there t.high k h long.highs j d,
+                    there t.top k q long.tops j d,
+                  )
+                  (w.each j (omega arith)));
+            }

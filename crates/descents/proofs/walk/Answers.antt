@@ -1,32 +1,28 @@
 -- Step by step: each asks what the steps before it left.
-use Rattle.laws.proofs.Chaining.{filled_unchained}
-use Rattle.descents.proofs.Walking.{walk_few, walk_chainable, walk_lowerable, walk_rising, walk_torn, walk_bottomed, walk_comparable, walk_falling, walk_done}
-use native.Mathlib.Omega.{arith}
+use Rattle.laws.proofs.Passing.{passed_on}
+use Rattle.descents.proofs.Walking.{walk_chainable, walk_lowerable, walk_rising, walk_torn, walk_bottomed, walk_comparable, walk_falling, walk_done}
 use Rattle.descents.proofs.walk.Goals as goal
 
-pub overflow_cast-none : goal.overflow_cast-none
-overflow_cast-none c = omega (arith, walk_few c.requires.asked)
-
-pub chain-requires : goal.chain-requires
-chain-requires c = record { chainable = walk_chainable c.requires.asked; unchained = search filled_unchained }
+pub chain-chains-requires : goal.chain-chains-requires
+chain-chains-requires g c = walk_chainable c.requires
 
 pub lower-requires : goal.lower-requires
-lower-requires c = record { tree = c.requires.tree; asked = walk_lowerable c.requires.asked }
+lower-requires g c = walk_lowerable c.requires
 
 pub rise-requires : goal.rise-requires
-rise-requires c = record { tree = c.requires.tree; asked = walk_rising c.requires.asked c.chain.ensures (c.lower.ensures _ (walk_lowerable c.requires.asked)) }
+rise-requires g c = walk_rising c.requires c.chain-chains.ensures c.lower.ensures
 
-pub returns-in-Tears : goal.returns-in-Tears
-returns-in-Tears c = λ S w. walk_torn w c.chain.ensures (c.lower.ensures S (walk_lowerable w)) (c.rise.ensures S (walk_rising w c.chain.ensures (c.lower.ensures S (walk_lowerable w)))) c.in-Tears.is
+pub returns-in_err-rise : goal.returns-in_err-rise
+returns-in_err-rise g c = rw (passed_on c.from_residual.result c.from_residual.ensures.1) (walk_torn c.requires c.chain-chains.ensures c.lower.ensures c.in_err-rise.ensures)
 
 pub measure-requires : goal.measure-requires
-measure-requires c = record { tree = c.requires.tree; asked = walk_bottomed c.requires.asked c.chain.ensures (c.lower.ensures _ (walk_lowerable c.requires.asked)) (c.rise.ensures _ (walk_rising c.requires.asked c.chain.ensures (c.lower.ensures _ (walk_lowerable c.requires.asked)))) c.in-Holds.is }
+measure-requires g c = walk_bottomed c.requires c.chain-chains.ensures c.lower.ensures c.in_ok-rise.ensures
 
 pub rivals-requires : goal.rivals-requires
-rivals-requires c = record { tree = c.requires.tree; asked = walk_comparable c.requires.asked c.chain.ensures (c.lower.ensures _ (walk_lowerable c.requires.asked)) (c.rise.ensures _ (walk_rising c.requires.asked c.chain.ensures (c.lower.ensures _ (walk_lowerable c.requires.asked)))) c.in-Holds.is (c.measure.ensures _ (walk_bottomed c.requires.asked c.chain.ensures (c.lower.ensures _ (walk_lowerable c.requires.asked)) (c.rise.ensures _ (walk_rising c.requires.asked c.chain.ensures (c.lower.ensures _ (walk_lowerable c.requires.asked)))) c.in-Holds.is)) }
+rivals-requires g c = walk_comparable c.requires c.chain-chains.ensures c.lower.ensures c.in_ok-rise.ensures c.measure.ensures
 
 pub fall-requires : goal.fall-requires
-fall-requires c = record { tree = c.requires.tree; asked = walk_falling c.requires.asked c.chain.ensures (c.lower.ensures _ (walk_lowerable c.requires.asked)) (c.rise.ensures _ (walk_rising c.requires.asked c.chain.ensures (c.lower.ensures _ (walk_lowerable c.requires.asked)))) c.in-Holds.is (c.measure.ensures _ (walk_bottomed c.requires.asked c.chain.ensures (c.lower.ensures _ (walk_lowerable c.requires.asked)) (c.rise.ensures _ (walk_rising c.requires.asked c.chain.ensures (c.lower.ensures _ (walk_lowerable c.requires.asked)))) c.in-Holds.is)) (c.rivals.ensures _ (walk_comparable c.requires.asked c.chain.ensures (c.lower.ensures _ (walk_lowerable c.requires.asked)) (c.rise.ensures _ (walk_rising c.requires.asked c.chain.ensures (c.lower.ensures _ (walk_lowerable c.requires.asked)))) c.in-Holds.is (c.measure.ensures _ (walk_bottomed c.requires.asked c.chain.ensures (c.lower.ensures _ (walk_lowerable c.requires.asked)) (c.rise.ensures _ (walk_rising c.requires.asked c.chain.ensures (c.lower.ensures _ (walk_lowerable c.requires.asked)))) c.in-Holds.is)))) }
+fall-requires g c = walk_falling c.requires c.chain-chains.ensures c.lower.ensures c.in_ok-rise.ensures c.measure.ensures c.rivals.ensures
 
 pub returns : goal.returns
-returns c = λ S w. walk_done w c.chain.ensures (c.lower.ensures S (walk_lowerable w)) (c.rise.ensures S (walk_rising w c.chain.ensures (c.lower.ensures S (walk_lowerable w)))) c.in-Holds.is (c.measure.ensures S (walk_bottomed w c.chain.ensures (c.lower.ensures S (walk_lowerable w)) (c.rise.ensures S (walk_rising w c.chain.ensures (c.lower.ensures S (walk_lowerable w)))) c.in-Holds.is)) (c.rivals.ensures S (walk_comparable w c.chain.ensures (c.lower.ensures S (walk_lowerable w)) (c.rise.ensures S (walk_rising w c.chain.ensures (c.lower.ensures S (walk_lowerable w)))) c.in-Holds.is (c.measure.ensures S (walk_bottomed w c.chain.ensures (c.lower.ensures S (walk_lowerable w)) (c.rise.ensures S (walk_rising w c.chain.ensures (c.lower.ensures S (walk_lowerable w)))) c.in-Holds.is)))) (c.fall.ensures S (walk_falling w c.chain.ensures (c.lower.ensures S (walk_lowerable w)) (c.rise.ensures S (walk_rising w c.chain.ensures (c.lower.ensures S (walk_lowerable w)))) c.in-Holds.is (c.measure.ensures S (walk_bottomed w c.chain.ensures (c.lower.ensures S (walk_lowerable w)) (c.rise.ensures S (walk_rising w c.chain.ensures (c.lower.ensures S (walk_lowerable w)))) c.in-Holds.is)) (c.rivals.ensures S (walk_comparable w c.chain.ensures (c.lower.ensures S (walk_lowerable w)) (c.rise.ensures S (walk_rising w c.chain.ensures (c.lower.ensures S (walk_lowerable w)))) c.in-Holds.is (c.measure.ensures S (walk_bottomed w c.chain.ensures (c.lower.ensures S (walk_lowerable w)) (c.rise.ensures S (walk_rising w c.chain.ensures (c.lower.ensures S (walk_lowerable w)))) c.in-Holds.is))))))
+returns g c = walk_done c.requires c.chain-chains.ensures c.lower.ensures c.in_ok-rise.ensures c.measure.ensures c.rivals.ensures c.fall.ensures

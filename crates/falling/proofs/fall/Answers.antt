@@ -1,63 +1,25 @@
 -- The loop over the heights keeps `Walk`, the one along a chain `Turn`.
-use Rattle.links.proofs.Outcomes.{torn, holds_of}
-use native.Mathlib.Omega.{arith}
-use Rattle.falling.proofs.Walking.{walk_start, walk_done, level_small, entered, turn_level, turn_done, turn_place, turn_coming, turn_rises, turn_next}
+use Rattle.meeting.proofs.Overlapping.{torn_on}
+use Rattle.falling.proofs.Walking.{walk_start, walk_done, turn_first, turn_done, turn_coming, turn_next}
 use Rattle.falling.proofs.fall.Goals as goal
 
 pub loop-x-init : goal.loop-x-init
-loop-x-init c = λ S A. walk_start A
-
-pub offset_bounds-heads-x : goal.offset_bounds-heads-x
-offset_bounds-heads-x c = omega (arith, level_small c.requires.asked (c.loop-x.invariant _ c.requires.asked) c.loop-x-test.true)
-
-pub bounds-heads-x : goal.bounds-heads-x
-bounds-heads-x c = omega (arith, level_small c.requires.asked (c.loop-x.invariant _ c.requires.asked) c.loop-x-test.true)
+loop-x-init g c = walk_start c.requires
 
 pub loop-b-init : goal.loop-b-init
-loop-b-init c = λ S E. E.turn
+loop-b-init g c = turn_first c.requires c.loop-x.invariant c.loop-x-test.true
 
 pub loop-x-preserved : goal.loop-x-preserved
-loop-x-preserved c = λ S A.
-    let E = entered A (c.loop-x.invariant S A) c.loop-x-test.true c.wide-lines.ensures c.wide-b.ensures in
-    let T = c.loop-b.invariant S E in
-    turn_done E T (c.loop-x.invariant S A).onward c.loop-b-test.false
-
-pub overflow_cast-x : goal.overflow_cast-x
-overflow_cast-x c = let E = entered c.requires.asked (c.loop-x.invariant _ c.requires.asked) c.loop-x-test.true c.wide-lines.ensures c.wide-b.ensures in
-    let T = c.loop-b.invariant _ E in
-    omega (arith, turn_level E T)
+loop-x-preserved g c = turn_done c.requires c.loop-b.invariant c.loop-b-test.false
 
 pub come_down-requires : goal.come_down-requires
-come_down-requires c = let E = entered c.requires.asked (c.loop-x.invariant _ c.requires.asked) c.loop-x-test.true c.wide-lines.ensures c.wide-b.ensures in
-    let T = c.loop-b.invariant _ E in
-    record { tree = _; asked = turn_coming E T c.loop-b-test.true }
+come_down-requires g c = turn_coming c.requires c.loop-b.invariant c.loop-b-test.true
 
-pub returns-in-Tears : goal.returns-in-Tears
-returns-in-Tears c = λ S A.
-    let E = entered A (c.loop-x.invariant S A) c.loop-x-test.true c.wide-lines.ensures c.wide-b.ensures in
-    let T = c.loop-b.invariant S E in
-    torn (c.come_down.ensures S (turn_coming E T c.loop-b-test.true)) c.in-Tears.is
-
-pub offset_bounds-nexts-b : goal.offset_bounds-nexts-b
-offset_bounds-nexts-b c = let E = entered c.requires.asked (c.loop-x.invariant _ c.requires.asked) c.loop-x-test.true c.wide-lines.ensures c.wide-b.ensures in
-    let T = c.loop-b.invariant _ E in
-    omega (arith, turn_place E T c.loop-b-test.true)
-
-pub bounds-nexts-b : goal.bounds-nexts-b
-bounds-nexts-b c = let E = entered c.requires.asked (c.loop-x.invariant _ c.requires.asked) c.loop-x-test.true c.wide-lines.ensures c.wide-b.ensures in
-    let T = c.loop-b.invariant _ E in
-    turn_place E T c.loop-b-test.true
-
-pub loop-b-smaller : goal.loop-b-smaller
-loop-b-smaller c = let E = entered c.requires.asked (c.loop-x.invariant _ c.requires.asked) c.loop-x-test.true c.wide-lines.ensures c.wide-b.ensures in
-    let T = c.loop-b.invariant _ E in
-    omega (arith, c.loop-b-test.true, turn_rises E T c.loop-b-test.true c.wide-b-in-loop-b.ensures)
+pub returns-in_err-come_down : goal.returns-in_err-come_down
+returns-in_err-come_down g c = torn_on c.in_err-come_down.ensures c.from_residual.ensures.1
 
 pub loop-b-preserved : goal.loop-b-preserved
-loop-b-preserved c = λ S E.
-    let T = c.loop-b.invariant S E in
-    let N = holds_of (c.come_down.ensures S (turn_coming E T c.loop-b-test.true)) c.in-Holds.is in
-    turn_next E T c.loop-b-test.true c.wide-b-in-loop-b.ensures N.1 N.2
+loop-b-preserved g c = turn_next c.requires c.loop-b.invariant c.loop-b-test.true c.in_ok-come_down.ensures
 
 pub returns : goal.returns
-returns c = λ S A. walk_done A (c.loop-x.invariant S A) c.loop-x-test.false
+returns g c = walk_done c.requires c.loop-x.invariant c.loop-x-test.false

@@ -1,12 +1,13 @@
 -- The loop keeps `Descent`: what is above the vertex that b has come to has been passed.
 use Rattle.laws.specs.Lists.{at}
-use Rattle.fork.specs.Inside.{EachTree}
-use Rattle.falling.specs.Down.{Sinking}
 use Rattle.falling.proofs.Descending.{Descent}
 use Rattle.falling.proofs.go_down.Given as goal
 
 abbrev pub invariant-loop-v : goal.invariant-loop-v
-invariant-loop-v l = EachTree (λ S. Sinking S l.b l.x l.heights l.parents l.initial.jumps l.initial.pairs l.initial.forks l.initial.groups) (λ S. Descent S l.b l.x l.s l.p l.v l.steps l.initial.groups l.jumps l.pairs l.forks l.groups)
+invariant-loop-v g l = Descent g.S l.b l.x l.s l.p l.v l.steps l.initial.groups l.jumps l.pairs l.forks l.groups
 
 abbrev pub decreases-loop-v : goal.decreases-loop-v
-decreases-loop-v l = at l.heights l.v
+decreases-loop-v g l = at l.heights l.v
+
+abbrev pub ghost-pass : goal.ghost-pass
+ghost-pass g a = g.S

@@ -4,10 +4,10 @@ use Rattle.falling.proofs.Overtaking.{pass_idle, pass_tieable, pass_tied}
 use Rattle.falling.proofs.pass.Goals as goal
 
 pub returns-then-x-jumps : goal.returns-then-x-jumps
-returns-then-x-jumps c = λ S P. pass_idle P c.wide-t.ensures c.if-t-eq-INDEX.false (omega arith)
+returns-then-x-jumps g c = pass_idle c.requires c.if-held.false (omega arith)
 
 pub take-requires : goal.take-requires
-take-requires c = record { tree = _; asked = pass_tieable c.requires.asked c.wide-t.ensures c.if-t-eq-INDEX.false (omega arith) }
+take-requires g c = pass_tieable c.requires c.if-held.false (omega arith)
 
 pub returns : goal.returns
-returns c = λ S P. pass_tied P c.wide-t.ensures c.if-t-eq-INDEX.false (c.take.ensures S (pass_tieable P c.wide-t.ensures c.if-t-eq-INDEX.false (omega arith)))
+returns g c = pass_tied c.requires c.if-held.false c.take.ensures

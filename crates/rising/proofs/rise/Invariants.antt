@@ -1,12 +1,16 @@
--- `rise` keeps `Upward` from back line to back line, and from chain to chain.
-use Prim.Native.Nat.{◌+◌, ◌-◌, ◌*◌}
-use Rattle.fork.specs.Inside.{EachTree}
-use Rattle.rising.specs.Inside.{Rising}
-use Rattle.rising.proofs.Rising.{Upward}
+-- `rise` keeps `Levelled` from chain to chain, and `Upward` from back line to back line.
+use Prim.Native.Nat.{◌-◌}
+use Rattle.rising.proofs.Rising.{Levelled, Upward}
 use Rattle.rising.proofs.rise.Given as goal
 
 abbrev pub invariant-loop-x : goal.invariant-loop-x
-invariant-loop-x l = EachTree (λ S. Rising S l.vertices l.heights l.jumps l.heads l.nexts l.forks l.initial.bottoms l.initial.groups) (λ S. Upward S l.x l.b l.bottoms l.initial.groups l.groups)
+invariant-loop-x g l = Levelled g.S l.x l.bottoms l.fn.groups l.groups
 
-abbrev pub decreases-loop-x : goal.decreases-loop-x
-decreases-loop-x l = (l.vertices - l.x) * 2049 + (l.none - l.b)
+abbrev pub invariant-loop-b : goal.invariant-loop-b
+invariant-loop-b g l = Upward g.S l.x l.b l.bottoms l.fn.groups l.groups
+
+abbrev pub decreases-loop-b : goal.decreases-loop-b
+decreases-loop-b g l = l.none - l.b
+
+abbrev pub ghost-settle : goal.ghost-settle
+ghost-settle g a = g.S
