@@ -7,8 +7,8 @@ use native.Mathlib.Omega.{arith}
 use lib.ListN.{set, length-set}
 use Rattle.laws.specs.Lists.{at}
 use Rattle.laws.proofs.Cases.{cases, eq_or, lt_or}
-use Rattle.groups.specs.Calls.{Wide}
 use Rattle.groups.specs.Groups.{columns}
+use Rattle.groups.specs.declared.Groups.{Groups}
 use Rattle.groups.proofs.Filling.{stored, beside}
 use Rattle.rings.specs.Flooding.{Step, Found, Climbable, Trail, Reachable, SimpleWay}
 use Rattle.rings.proofs.Flooding.{pigeon, queue_few}
@@ -78,57 +78,59 @@ module _ (lines b d n x : ℕ) (via chain : List ℕ) (c : Climb lines b d n x v
     pub climb_less : lines - (n + 1) < lines - n
     climb_less = omega (arith, above_first, c.room, queue_few c.base.queued)
 
-    module _ (w : ℕ) (is_w : Wide (at via x) w) where
-      before : (j : ℕ) × (j < c.place) × (at via (c.base.queue c.place) ≡ c.base.queue j)
-      before = c.base.queued.earlier c.place above_first x_place
+    abbrev w : ℕ
+    w = at via x
 
-      w_is : w ≡ c.base.queue before.0
-      w_is = is_w.is ∙ ap (at via) (sym c.is_x) ∙ before.2
+    before : (j : ℕ) × (j < c.place) × (at via (c.base.queue c.place) ≡ c.base.queue j)
+    before = c.base.queued.earlier c.place above_first x_place
 
-      new : at (set chain n w) n ≡ w
-      new = stored chain n w (omega (arith, climb_room, c.base.long))
+    w_is : w ≡ c.base.queue before.0
+    w_is = ap (at via) (sym c.is_x) ∙ before.2
 
-      old : (i : ℕ) → i < n → at (set chain n w) i ≡ at chain i
-      old i h = beside chain n w i (λ e. omega arith)
+    new : at (set chain n w) n ≡ w
+    new = stored chain n w (omega (arith, climb_room, c.base.long))
 
-      -- w stands lower than all lines before
-      other : (i : ℕ) → i < n → at chain i ≡ w → ⊥
-      other i h e =
-          let q = c.above i h in
-          omega (arith, before.1, q.1, c.base.queued.once q.0 before.0 q.2 (omega (arith, before.1, x_place)) (sym q.3 ∙ e ∙ w_is))
+    old : (i : ℕ) → i < n → at (set chain n w) i ≡ at chain i
+    old i h = beside chain n w i (λ e. omega arith)
 
-      pub climb_more : Climb lines b d (n + 1) w via (set chain n w)
-      climb_more =
-          let l = before.1 in
-          let k = x_place in
-          record {
-            base = rebased n w c.base;
-            some = omega arith;
-            few = omega (arith, climb_room);
-            small = omega (arith, c.base.queued.inside before.0 (omega arith), w_is, c.base.few);
-            place = before.0;
-            room = omega (arith, c.room);
-            is_x = sym w_is;
-            last = let z : n + 1 - 1 ≡ n = omega arith in ap (at (set chain n w)) z ∙ new;
-            first = old 0 c.some ∙ c.first;
-            above = λ i h.
-                cases (lt_or i n)
-                (λ o. let q = c.above i o in let r = q.1 in (q.0, omega arith, q.2, old i o ∙ q.3))
-                (λ o. let e : i ≡ n = omega arith in (before.0, omega arith, omega arith, ap (at (set chain n w)) e ∙ new ∙ w_is));
-            apart = λ i j h o e.
-                let o' : i < n = omega arith in
-                cases (lt_or j n)
-                (λ k'. c.apart i j h k' (sym (old i o') ∙ e ∙ old j k'))
-                (λ k'. let z : j ≡ n = omega arith in other i o' (sym (old i o') ∙ e ∙ ap (at (set chain n w)) z ∙ new));
-            along = λ i h.
-                let o : i < n = omega arith in
-                cases (lt_or (suc i) n)
-                (λ k'. old (suc i) k' ∙ c.along i k' ∙ ap (at via) (sym (old i o)))
-                (λ k'.
-                let z : suc i ≡ n = omega arith in
-                let y : n - 1 ≡ i = omega arith in
-                ap (at (set chain n w)) z ∙ new ∙ is_w.is ∙ ap (at via) (sym c.last ∙ ap (at chain) y ∙ sym (old i o)));
-          }
+    -- w stands lower than all lines before
+    other : (i : ℕ) → i < n → at chain i ≡ w → ⊥
+    other i h e =
+        let q = c.above i h in
+        omega (arith, before.1, q.1, c.base.queued.once q.0 before.0 q.2 (omega (arith, before.1, x_place)) (sym q.3 ∙ e ∙ w_is))
+
+    pub climb_more : Climb lines b d (n + 1) w via (set chain n w)
+    climb_more =
+        let l = before.1 in
+        let k = x_place in
+        record {
+          base = rebased n w c.base;
+          some = omega arith;
+          few = omega (arith, climb_room);
+          small = omega (arith, c.base.queued.inside before.0 (omega arith), w_is, c.base.few);
+          place = before.0;
+          room = omega (arith, c.room);
+          is_x = sym w_is;
+          last = let z : n + 1 - 1 ≡ n = omega arith in ap (at (set chain n w)) z ∙ new;
+          first = old 0 c.some ∙ c.first;
+          above = λ i h.
+              cases (lt_or i n)
+              (λ o. let q = c.above i o in let r = q.1 in (q.0, omega arith, q.2, old i o ∙ q.3))
+              (λ o. let e : i ≡ n = omega arith in (before.0, omega arith, omega arith, ap (at (set chain n w)) e ∙ new ∙ w_is));
+          apart = λ i j h o e.
+              let o' : i < n = omega arith in
+              cases (lt_or j n)
+              (λ k'. c.apart i j h k' (sym (old i o') ∙ e ∙ old j k'))
+              (λ k'. let z : j ≡ n = omega arith in other i o' (sym (old i o') ∙ e ∙ ap (at (set chain n w)) z ∙ new));
+          along = λ i h.
+              let o : i < n = omega arith in
+              cases (lt_or (suc i) n)
+              (λ k'. old (suc i) k' ∙ c.along i k' ∙ ap (at via) (sym (old i o)))
+              (λ k'.
+              let z : suc i ≡ n = omega arith in
+              let y : n - 1 ≡ i = omega arith in
+              ap (at (set chain n w)) z ∙ new ∙ ap (at via) (sym c.last ∙ ap (at chain) y ∙ sym (old i o)));
+        }
 
   pub climb_done : x ≡ b → Trail lines b d (at via) n chain
   climb_done e =
@@ -144,7 +146,7 @@ module _ (lines b d n x : ℕ) (via chain : List ℕ) (c : Climb lines b d n x v
 
 -- .. after a flood: different lines, each with a joining to the next
 
-module _ (lines b d : ℕ) (g via : List ℕ) (f : Found lines b d g via) where
+module _ (lines b d : ℕ) (g : Groups) (via : List ℕ) (f : Found lines b d g via) where
   pub rooted : (chain : List ℕ) → Reachable lines b d g chain → Climbable lines b d via chain
   rooted chain c =
       record {

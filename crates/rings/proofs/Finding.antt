@@ -5,13 +5,14 @@ use native.Mathlib.Omega.{arith}
 use lib.ListN.{replicate, length-replicate, get_or-replicate}
 use Rattle.laws.specs.Lists.{at}
 use Rattle.groups.specs.Groups.{columns}
+use Rattle.groups.specs.declared.Groups.{Groups}
 use Rattle.rings.specs.Flooding.{StepChains, Unflooded, Reachable, SimpleWay}
 use Rattle.rings.specs.Rings.{Showing, RingRoom, Written, Shown}
 use Rattle.rings.proofs.Showing.{shown}
 
 -- The chain
 
-module _ (lines b d : ℕ) (g chain : List ℕ) (c : Reachable lines b d g chain) where
+module _ (lines b d : ℕ) (g : Groups) (chain : List ℕ) (c : Reachable lines b d g chain) where
   pub fresh : (heads nexts : List ℕ) → StepChains lines g heads nexts → Unflooded lines b d g heads nexts (replicate {A = ℕ} 2048 lines)
   fresh heads nexts h =
       record {
@@ -26,7 +27,7 @@ module _ (lines b d : ℕ) (g chain : List ℕ) (c : Reachable lines b d g chain
 
 -- The ring
 
-module _ (lines b d k : ℕ) (g ring kinds : List ℕ) (s : Showing lines b d k g ring kinds) where
+module _ (lines b d k : ℕ) (g : Groups) (ring kinds : List ℕ) (s : Showing lines b d k g ring kinds) where
   pub connected : Reachable lines b d g (replicate {A = ℕ} 2048 0)
   connected =
       let t = s.conflict in

@@ -13,8 +13,8 @@ use Rattle.laws.specs.Lists.{at}
 use Rattle.laws.specs.Chains.{Follows}
 use Rattle.laws.proofs.Cases.{cases, eq_or, lt_or}
 use Rattle.laws.proofs.Counting.{count_le, count_all}
-use Rattle.groups.specs.Calls.{Wide}
 use Rattle.groups.specs.Groups.{columns}
+use Rattle.groups.specs.declared.Groups.{Groups}
 use Rattle.groups.proofs.Ways.{way_in}
 use Rattle.groups.proofs.Filling.{stored, beside}
 use Rattle.rings.specs.Flooding.{Step, leaves, arrives, Queued, Reach, Further, Spread, LookFrom, Looked, ScanFrom, Scanned, Unflooded, Found}
@@ -99,78 +99,74 @@ module _ (lines n : ℕ) (queue via : ℕ → ℕ) (q : Queued lines n queue via
 
 -- A look
 
-module _ (lines x s n : ℕ) (g queue via : List ℕ) (l : LookFrom lines x s n g queue via) (y : ℕ) (is_y : (y ≡ arrives g s) × (y < 65536)) where
+module _ (lines x s n : ℕ) (g : Groups) (queue via : List ℕ) (l : LookFrom lines x s n g queue via) (y : ℕ) (is_y : (y ≡ arrives g s) × (y < 65536)) where
   y_inside : y < lines
   y_inside = rw is_y.0 (arrives_inside lines g l.standing.sound s l.below)
 
   pub y_small : y < 2048
   y_small = omega (arith, y_inside, l.standing.sound.few)
 
-  module _ (z : ℕ) (is_z : Wide (at via y) z) where
-    pub look_old : z < lines → Looked lines s n n g queue via queue via
-    look_old h =
-        record {
-          further = record { reach = l.standing.reach; more = omega arith; same = λ i o. refl; still = λ i o. o };
-          met = rw (← is_y.0, ← is_z.is) h;
-        }
+  pub look_old : at via y < lines → Looked lines s n n g queue via queue via
+  look_old h =
+      record {
+        further = record { reach = l.standing.reach; more = omega arith; same = λ i o. refl; still = λ i o. o };
+        met = rw (← is_y.0) h;
+      }
 
-    module _ (h : lines ≤ z) where
-      new_y : lines ≤ at via y
-      new_y = omega (arith, is_z.is)
+  module _ (new_y : lines ≤ at via y) where
+    n_inside : n < lines
+    n_inside = queue_room lines n (at queue) (at via) l.standing.reach.queued y y_inside new_y l.standing.place l.standing.within
 
-      n_inside : n < lines
-      n_inside = queue_room lines n (at queue) (at via) l.standing.reach.queued y y_inside new_y l.standing.place l.standing.within
+    pub n_small : n < 2048
+    n_small = omega (arith, n_inside, l.standing.sound.few)
 
-      pub n_small : n < 2048
-      n_small = omega (arith, n_inside, l.standing.sound.few)
+    new_queue : at (set queue n y) n ≡ y
+    new_queue = stored queue n y (omega (arith, n_small, l.standing.reach.queues))
 
-      new_queue : at (set queue n y) n ≡ y
-      new_queue = stored queue n y (omega (arith, n_small, l.standing.reach.queues))
+    old_queue : (i : ℕ) → i < n → at (set queue n y) i ≡ at queue i
+    old_queue i o = beside queue n y i (λ e. omega arith)
 
-      old_queue : (i : ℕ) → i < n → at (set queue n y) i ≡ at queue i
-      old_queue i o = beside queue n y i (λ e. omega arith)
+    new_via_y : at (set via y x) y ≡ x
+    new_via_y = stored via y x (omega (arith, y_small, l.standing.reach.vias))
 
-      new_via_y : at (set via y x) y ≡ x
-      new_via_y = stored via y x (omega (arith, y_small, l.standing.reach.vias))
+    old_via_of : (i : ℕ) → (i ≡ y → ⊥) → at (set via y x) i ≡ at via i
+    old_via_of i d = beside via y x i d
 
-      old_via_of : (i : ℕ) → (i ≡ y → ⊥) → at (set via y x) i ≡ at via i
-      old_via_of i d = beside via y x i d
+    not_y : (i : ℕ) → i < n → at queue i ≡ y → ⊥
+    not_y = not_yet lines n (at queue) (at via) l.standing.reach.queued y y_inside new_y l.standing.place l.standing.within
 
-      not_y : (i : ℕ) → i < n → at queue i ≡ y → ⊥
-      not_y = not_yet lines n (at queue) (at via) l.standing.reach.queued y y_inside new_y l.standing.place l.standing.within
+    step_y : Step lines (columns g) x y
+    step_y = rw (is_y.0, ← l.here) (half_step lines g s l.below)
 
-      step_y : Step lines (columns g) x y
-      step_y = rw (is_y.0, ← l.here) (half_step lines g s l.below)
-
-      pub look_new : Looked lines s n (n + 1) g queue via (set queue n y) (set via y x)
-      look_new =
-          let one : n + 1 ≡ suc n = omega arith in
-          let r = l.standing.reach in
-          let here = l.standing.inside in
-          rw one
-          (record {
-            further = record {
-              reach = record {
-                queues = length-set queue n y ∙ r.queues;
-                vias = length-set via y x ∙ r.vias;
-                queued =
-                    queue_more lines n (at queue) (at via) r.queued y y_inside new_y l.standing.place l.standing.within
-                    (at (set queue n y)) (at (set via y x)) new_queue old_queue (new_via_y ∙ sym l.standing.is_x) old_via_of;
-                twig = λ i k h.
-                    cases (lt_or i n)
-                    (λ o. rw (old_queue i o, old_via_of (at queue i) (not_y i o)) (r.twig i k o))
-                    (λ o. let e : i ≡ n = omega arith in rw (e, new_queue, new_via_y) step_y);
-              };
-              more = omega arith;
-              same = old_queue;
-              still = λ w o. cases (eq_or w y) (λ e. rw (e, new_via_y) here) (λ d. rw (old_via_of w d) o);
+    pub look_new : Looked lines s n (n + 1) g queue via (set queue n y) (set via y x)
+    look_new =
+        let one : n + 1 ≡ suc n = omega arith in
+        let r = l.standing.reach in
+        let here = l.standing.inside in
+        rw one
+        (record {
+          further = record {
+            reach = record {
+              queues = length-set queue n y ∙ r.queues;
+              vias = length-set via y x ∙ r.vias;
+              queued =
+                  queue_more lines n (at queue) (at via) r.queued y y_inside new_y l.standing.place l.standing.within
+                  (at (set queue n y)) (at (set via y x)) new_queue old_queue (new_via_y ∙ sym l.standing.is_x) old_via_of;
+              twig = λ i k h.
+                  cases (lt_or i n)
+                  (λ o. rw (old_queue i o, old_via_of (at queue i) (not_y i o)) (r.twig i k o))
+                  (λ o. let e : i ≡ n = omega arith in rw (e, new_queue, new_via_y) step_y);
             };
-            met = rw (← is_y.0, new_via_y) here;
-          })
+            more = omega arith;
+            same = old_queue;
+            still = λ w o. cases (eq_or w y) (λ e. rw (e, new_via_y) here) (λ d. rw (old_via_of w d) o);
+          };
+          met = rw (← is_y.0, new_via_y) here;
+        })
 
 -- Looks along the chain of x
 
-further_then : {lines n n' n'' : ℕ} {g queue via queue' via' queue'' via'' : List ℕ} → Further lines g n n' queue via queue' via'
+further_then : {lines n n' n'' : ℕ} {g : Groups} {queue via queue' via' queue'' via'' : List ℕ} → Further lines g n n' queue via queue' via'
     → Further lines g n' n'' queue' via' queue'' via'' → Further lines g n n'' queue via queue'' via''
 further_then f k =
     let m = f.more in
@@ -182,20 +178,20 @@ further_then f k =
     }
 
 -- the half-steps below s are looked along, and s is the next one of x
-pub record Along (lines x n k s : ℕ) (g queue₀ via₀ queue via : List ℕ) : Type 0 where
+pub record Along (lines x n k s : ℕ) (g : Groups) (queue₀ via₀ queue via : List ℕ) : Type 0 where
   pub further : Further lines g n k queue₀ via₀ queue via
   pub few : lines ≤ 2048
   pub upto : s ≤ 2 * lines
   pub here : s < 2 * lines → leaves g s ≡ x
   pub spread : Spread lines g s (at via) x
 
-module _ (lines x n : ℕ) (g heads nexts queue₀ via₀ : List ℕ) (a : ScanFrom lines x n g heads nexts queue₀ via₀) where
+module _ (lines x n : ℕ) (g : Groups) (heads nexts queue₀ via₀ : List ℕ) (a : ScanFrom lines x n g heads nexts queue₀ via₀) where
   x_small : x < 2048
   x_small = omega (arith, a.standing.inside, a.standing.sound.few)
 
-  pub along_start : (s : ℕ) → Wide (at heads x) s → Along lines x n n s g queue₀ via₀ queue₀ via₀
-  along_start s is_s =
-      let f = subst (λ (z : ℕ). Follows (2 * lines) (leaves g) x 0 z) (sym is_s.is) (a.chains.heads_are x x_small) in
+  pub along_start : Along lines x n n (at heads x) g queue₀ via₀ queue₀ via₀
+  along_start =
+      let f = a.chains.heads_are x x_small in
       record {
         further = record { reach = a.standing.reach; more = omega arith; same = λ i o. refl; still = λ i o. o };
         few = a.standing.sound.few;
@@ -223,17 +219,15 @@ module _ (lines x n : ℕ) (g heads nexts queue₀ via₀ : List ℕ) (a : ScanF
           here = o.here h;
         }
 
-    module _ (h : s < 2 * lines) (s' : ℕ) (is_s : Wide (at nexts s) s') where
-      next : Follows (2 * lines) (leaves g) x (s + 1) s'
-      next =
-          subst (λ (z : ℕ). Follows (2 * lines) (leaves g) x (s + 1) z) (sym is_s.is)
-          (subst (λ (v : ℕ). Follows (2 * lines) (leaves g) v (s + 1) (at nexts s)) (o.here h) (a.chains.nexts_are s h))
+    module _ (h : s < 2 * lines) where
+      next : Follows (2 * lines) (leaves g) x (s + 1) (at nexts s)
+      next = subst (λ (v : ℕ). Follows (2 * lines) (leaves g) v (s + 1) (at nexts s)) (o.here h) (a.chains.nexts_are s h)
 
-      pub along_less : 2 * lines - s' < 2 * lines - s
+      pub along_less : 2 * lines - at nexts s < 2 * lines - s
       along_less = omega (arith, next.from)
 
       pub along_more : (k' : ℕ) (queue' via' : List ℕ)
-          → Looked lines s k k' g queue via queue' via' → Along lines x n k' s' g queue₀ via₀ queue' via'
+          → Looked lines s k k' g queue via queue' via' → Along lines x n k' (at nexts s) g queue₀ via₀ queue' via'
       along_more k' queue' via' l =
           record {
             further = further_then o.further l.further;
@@ -255,7 +249,7 @@ module _ (lines x n : ℕ) (g heads nexts queue₀ via₀ : List ℕ) (a : ScanF
 -- Looks from one line of the queue after the other
 
 -- from the places before `head` all half-steps are looked along
-pub record Flood (lines b head n : ℕ) (g queue via : List ℕ) : Type 0 where
+pub record Flood (lines b head n : ℕ) (g : Groups) (queue via : List ℕ) : Type 0 where
   pub few : lines ≤ 2048
   pub most : n ≤ lines
   pub reach : Reach lines g n queue via
@@ -263,7 +257,7 @@ pub record Flood (lines b head n : ℕ) (g queue via : List ℕ) : Type 0 where
   pub ahead : head ≤ n
   pub spread : (i : ℕ) → i < head → Spread lines g (2 * lines) (at via) (at queue i)
 
-module _ {lines b d : ℕ} {g heads nexts via₀ : List ℕ} (a : Unflooded lines b d g heads nexts via₀) where
+module _ {lines b d : ℕ} {g : Groups} {heads nexts via₀ : List ℕ} (a : Unflooded lines b d g heads nexts via₀) where
   pub flood_start : Flood lines b 0 1 g (set (replicate {A = ℕ} 2048 0) 0 b) (set via₀ b b)
   flood_start =
       let queue = replicate {A = ℕ} 2048 0 in
@@ -295,7 +289,7 @@ module _ {lines b d : ℕ} {g heads nexts via₀ : List ℕ} (a : Unflooded line
         spread = λ i h. absurd (omega arith);
       }
 
-  module _ {head n : ℕ} {queue via : List ℕ} (f : Flood lines b head n g queue via) {z : ℕ} (is_z : Wide (at via d) z) where
+  module _ {head n : ℕ} {queue via : List ℕ} (f : Flood lines b head n g queue via) where
     -- no half_step leads out of the queue: then all that a way leads to is reached
     all_reached : n ≤ head → at via d < lines
     all_reached h = (way_in (λ x. (x < lines) × (at via x < lines)) (a.root, start) further a.way).1
@@ -312,10 +306,10 @@ module _ {lines b d : ℕ} {g heads nexts via₀ : List ℕ} (a : Unflooded line
               rw (← s.3) (f.spread p.0 (omega arith) s.0 s.1 (s.2 ∙ sym p.2)),
             )
 
-    module _ (un : lines ≤ z) where
+    module _ (un : lines ≤ at via d) where
       -- so a place is left
       left : head < n
-      left = cases (lt_or head n) (λ h. h) (λ h. absurd (omega (arith, all_reached h, is_z.is)))
+      left = cases (lt_or head n) (λ h. h) (λ h. absurd (omega (arith, all_reached h)))
 
       pub head_small : head < 2048
       head_small = omega (arith, left, f.most, f.few)
@@ -323,37 +317,36 @@ module _ {lines b d : ℕ} {g heads nexts via₀ : List ℕ} (a : Unflooded line
       pub flood_less : lines - (head + 1) < lines - head
       flood_less = omega (arith, left, f.most)
 
-      module _ {x : ℕ} (is_x : Wide (at queue head) x) where
-        pub flood_scanning : ScanFrom lines x n g heads nexts queue via
-        flood_scanning =
-            record {
-              standing = record {
-                sound = a.sound;
-                inside = rw is_x.is (f.reach.queued.inside head left);
-                most = queue_few f.reach.queued;
-                reach = f.reach;
-                place = head;
-                within = left;
-                is_x = sym is_x.is;
-              };
-              chains = a.chains;
-            }
+      pub flood_scanning : ScanFrom lines (at queue head) n g heads nexts queue via
+      flood_scanning =
+          record {
+            standing = record {
+              sound = a.sound;
+              inside = f.reach.queued.inside head left;
+              most = queue_few f.reach.queued;
+              reach = f.reach;
+              place = head;
+              within = left;
+              is_x = refl;
+            };
+            chains = a.chains;
+          }
 
-        pub flood_more : {n' : ℕ} {queue' via' : List ℕ} → Scanned lines x n n' g queue via queue' via' → Flood lines b (head + 1) n' g queue' via'
-        flood_more {n'} {queue'} w =
-            let l = left in
-            let k = w.further in
-            record {
-              few = f.few;
-              most = queue_few k.reach.queued;
-              reach = k.reach;
-              root = k.same 0 f.reach.queued.some ∙ f.root;
-              ahead = omega (arith, k.more);
-              spread = λ i h s o e.
-                  cases (lt_or i head)
-                  (λ q. k.still (arrives g s) (f.spread i q s o (e ∙ k.same i (omega arith))))
-                  (λ q. let y : i ≡ head = omega arith in w.spread s o (e ∙ ap (at queue') y ∙ k.same head l ∙ sym is_x.is));
-            }
+      pub flood_more : {n' : ℕ} {queue' via' : List ℕ} → Scanned lines (at queue head) n n' g queue via queue' via' → Flood lines b (head + 1) n' g queue' via'
+      flood_more {n'} {queue'} w =
+          let l = left in
+          let k = w.further in
+          record {
+            few = f.few;
+            most = queue_few k.reach.queued;
+            reach = k.reach;
+            root = k.same 0 f.reach.queued.some ∙ f.root;
+            ahead = omega (arith, k.more);
+            spread = λ i h s o e.
+                cases (lt_or i head)
+                (λ q. k.still (arrives g s) (f.spread i q s o (e ∙ k.same i (omega arith))))
+                (λ q. let y : i ≡ head = omega arith in w.spread s o (e ∙ ap (at queue') y ∙ k.same head l));
+          }
 
-    pub flood_done : z < lines → Found lines b d g via
-    flood_done h = record { size = n; queue = queue; reach = f.reach; root = f.root; goal = omega (arith, is_z.is) }
+    pub flood_done : at via d < lines → Found lines b d g via
+    flood_done h = record { size = n; queue = queue; reach = f.reach; root = f.root; goal = h }

@@ -1,20 +1,18 @@
 -- The two half-steps of a joining lead from each of its lines to the other; and the chains of half-steps, as the code lays them.
-use mathlib.Core.List.{List}
 use mathlib.Core.Logic.{inl, inr}
 use mathlib.Core.Path.{◌≡◌, sym, ◌∙◌, ap}
 use Prim.Native.Nat.{ℕ, ◌+◌, ◌*◌, ◌/◌, ◌%◌, ◌<◌}
 use native.Mathlib.Omega.{arith}
 use borrow.Author.Tests.{eq-eqb, ne_eqb}
-use Rattle.laws.specs.Lists.{at}
 use Rattle.laws.specs.Chains.{Chainable}
 use Rattle.laws.proofs.Cases.{cases, eq_or}
-use Rattle.groups.specs.Calls.{Wide}
 use Rattle.groups.specs.Groups.{columns}
+use Rattle.groups.specs.declared.Groups.{Groups}
 use Rattle.rings.specs.Flooding.{WithinLines, Step, leaves, arrives}
 
 -- The ends of a half_step
 
-module _ (g : List ℕ) (s : ℕ) where
+module _ (g : Groups) (s : ℕ) where
   leaves_even : s % 2 ≡ 0 → leaves g s ≡ (columns g).from (s / 2)
   unfolding leaves
   leaves_even e = rw (eq-eqb (s % 2) 0 e)
@@ -31,23 +29,9 @@ module _ (g : List ℕ) (s : ℕ) where
   unfolding arrives
   arrives_odd n = rw (ne_eqb (s % 2) 0 n)
 
--- .. as the code reads them
-module _ (g : List ℕ) (s r : ℕ) where
-  pub near_even : Wide (at g (4096 + s / 2)) r → s % 2 ≡ 0 → (r ≡ leaves g s) × (r < 65536)
-  near_even w e = (w.is ∙ sym (leaves_even g s e), w.small)
-
-  pub near_odd : Wide (at g (6144 + s / 2)) r → (s % 2 ≡ 0 → ⊥) → (r ≡ leaves g s) × (r < 65536)
-  near_odd w n = (w.is ∙ sym (leaves_odd g s n), w.small)
-
-  pub far_even : Wide (at g (6144 + s / 2)) r → s % 2 ≡ 0 → (r ≡ arrives g s) × (r < 65536)
-  far_even w e = (w.is ∙ sym (arrives_even g s e), w.small)
-
-  pub far_odd : Wide (at g (4096 + s / 2)) r → (s % 2 ≡ 0 → ⊥) → (r ≡ arrives g s) × (r < 65536)
-  far_odd w n = (w.is ∙ sym (arrives_odd g s n), w.small)
-
 -- A half_step goes along a joining
 
-module _ (lines : ℕ) (g : List ℕ) where
+module _ (lines : ℕ) (g : Groups) where
   pub half_step : (s : ℕ) → s < 2 * lines → Step lines (columns g) (leaves g s) (arrives g s)
   half_step s h =
       cases (eq_or (s % 2) 0)
@@ -69,7 +53,7 @@ module _ (lines : ℕ) (g : List ℕ) where
       let q : (2 * e + 1) / 2 ≡ e = omega arith in
       (2 * e + 1, omega arith, leaves_odd g (2 * e + 1) z ∙ ap (columns g).to q ∙ j.is_to, arrives_odd g (2 * e + 1) z ∙ ap (columns g).from q ∙ j.is_from)
 
-module _ (lines : ℕ) (g : List ℕ) (w : WithinLines lines g) (s : ℕ) (h : s < 2 * lines) where
+module _ (lines : ℕ) (g : Groups) (w : WithinLines lines g) (s : ℕ) (h : s < 2 * lines) where
   pub leaves_inside : leaves g s < lines
   leaves_inside =
       let i = w.inside (s / 2) (omega arith) in
@@ -86,6 +70,6 @@ module _ (lines : ℕ) (g : List ℕ) (w : WithinLines lines g) (s : ℕ) (h : s
 
 -- Chains
 
-pub chainable : (lines : ℕ) (g : List ℕ) → WithinLines lines g → Chainable 2048 4096 (2 * lines) (leaves g)
+pub chainable : (lines : ℕ) (g : Groups) → WithinLines lines g → Chainable 2048 4096 (2 * lines) (leaves g)
 chainable lines g w =
     record { few = omega (arith, w.few); small = λ s h. omega (arith, leaves_inside lines g w s h, w.few) }

@@ -1,17 +1,22 @@
 -- The chain read as a ring, as the code does it, on lists.
-use mathlib.Core.Bool.{Bool, true, false}
+use mathlib.Core.Bool.{Bool, true, false, cond}
 use mathlib.Core.List.{List}
 use mathlib.Core.Logic.{◌≢◌}
 use mathlib.Core.Path.{◌≡◌, sym, ◌∙◌, ap}
 use Prim.Native.Nat.{ℕ, suc, ◌+◌, ◌-◌, ◌*◌, ◌%◌, ◌≤◌, ◌<◌}
 use native.Mathlib.Omega.{arith}
-use lib.Dec.{eqb, leb}
+use denote.Enum.Bare.{sameb}
+use lib.Dec.{leb}
 use lib.ListN.{set}
-use borrow.Author.Tests.{eq-eqb, ne_eqb, eqb-true, eqb-false, leb-true, leb-false}
+use borrow.Author.Tests.{eq-eqb, ne_eqb, leb-true, leb-false}
 use Rattle.laws.specs.Lists.{at}
 use Rattle.laws.proofs.Cases.{cases, bool, eq_or}
-use Rattle.groups.specs.Calls.{Wide}
+use Rattle.side.specs.Sides.{code}
+use Rattle.side.specs.contracts.Wants.{the_type}
+use Rattle.side.specs.declared.Wants.{Wants}
+use Rattle.side.specs.declared.Wants.TheVariants.{Same, Different}
 use Rattle.groups.specs.Groups.{columns}
+use Rattle.groups.specs.declared.Groups.{Groups}
 use Rattle.groups.proofs.Filling.{Filled, filled_more}
 use Rattle.rings.specs.Rings.{LowestPlace, wrap, kind_of, spot_of, link_of, Spot, StepPlace, Upward, Readable, TracedLines, TracedKinds}
 use Rattle.rings.proofs.Circles.{wrap_low, wrap_high, wrap_within}
@@ -25,24 +30,27 @@ module _ (n i : ℕ) where
   pub around_high : n ≤ i → i - n ≡ wrap n i
   around_high h = sym (wrap_high n i h)
 
-module _ (n m : ℕ) (up : Bool) (j r : ℕ) (hm : m < n) (hj : j < n) where
-  pub spot_up : up ≡ true → r ≡ wrap n (m + j) → Spot n m up j r
+module _ (n m : ℕ) (up : Bool) (j r : ℕ) (hm : m < n) where
+  pub spot_up : j ≤ n → up ≡ true → r ≡ wrap n (m + j) → Spot n m up j r
   unfolding spot_of
-  spot_up e q = record { is = rw (e, q); within = rw q (wrap_within n (m + j) (omega arith)) }
+  spot_up hj e q = record { is = rw (e, q); within = rw q (wrap_within n (m + j) (omega arith)) }
 
-  pub spot_down : up ≡ false → r ≡ wrap n (m + n - j) → Spot n m up j r
+  pub spot_down : j ≤ n → up ≡ false → r ≡ wrap n (m + n - j) → Spot n m up j r
   unfolding spot_of
-  spot_down e q = record { is = rw (e, q); within = rw q (wrap_within n (m + n - j) (omega arith)) }
+  spot_down hj e q = record { is = rw (e, q); within = rw q (wrap_within n (m + n - j) (omega arith)) }
 
-  pub link_up : up ≡ true → r ≡ wrap n (m + j) → StepPlace n m up j r
-  unfolding link_of
-  link_up e q = record { is = rw (e, q); within = rw q (wrap_within n (m + j) (omega arith)) }
+  pub link_up : up ≡ true → Spot n m up j r → StepPlace n m up j r
+  unfolding spot_of link_of
+  link_up e q =
+      let s : r ≡ cond up (wrap n (m + j)) (wrap n (m + n - j)) = q.is in
+      record { is = rw e (rw e at s); within = q.within }
 
-  pub link_down : up ≡ false → r ≡ wrap n (m + n - (j + 1)) → StepPlace n m up j r
-  unfolding link_of
+  pub link_down : up ≡ false → Spot n m up (j + 1) r → StepPlace n m up j r
+  unfolding spot_of link_of
   link_down e q =
+      let s : r ≡ cond up (wrap n (m + (j + 1))) (wrap n (m + n - (j + 1))) = q.is in
       let z : m + n - (j + 1) ≡ m + n - suc j = omega arith in
-      record { is = rw (e, q, z); within = rw (q, z) (wrap_within n (m + n - suc j) (omega arith)) }
+      record { is = rw e (rw (e, z) at s); within = q.within }
 
 -- The lowest line
 
@@ -89,37 +97,31 @@ module _ (n : ℕ) (chain : List ℕ) where
 
 -- Kinds
 
-pub parities_sum : (x y r r' : ℕ) (g : List ℕ) → Wide (at g (2048 + x)) r → Wide (at g (2048 + y)) r'
-    → (r + r') % 2 ≡ ((columns g).parity x + (columns g).parity y) % 2
-parities_sum x y r r' g e e' = rw (e.is, e'.is)
-
-module _ (n k : ℕ) (g chain : List ℕ) (i : ℕ) where
+module _ (n k : ℕ) (g : Groups) (chain : List ℕ) (i : ℕ) where
   pub kind_home : i + 1 ≡ n → k ≡ kind_of (columns g).parity (at chain) n k i
   unfolding kind_of
   kind_home e = rw (eq-eqb (suc i) n (omega arith))
 
-  pub kind_here : (w : ℕ) → Wide (at chain i) w → Readable n chain → i < n → w < 2048
-  kind_here w e t h = omega (arith, e.is, t.small i h)
+  pub kind_here : Readable n chain → i < n → at chain i < 2048
+  kind_here t h = t.small i h
 
-  pub kind_there : (w : ℕ) → Wide (at chain (i + 1)) w → Readable n chain → i < n → (i + 1 ≡ n → ⊥) → w < 2048
-  kind_there w e t h d = let d' : i + 1 ≢ n = d in omega (arith, e.is, t.small (i + 1) (omega arith))
+  pub kind_there : Readable n chain → i < n → (i + 1 ≡ n → ⊥) → at chain (i + 1) < 2048
+  kind_there t h d = let d' : i + 1 ≢ n = d in t.small (i + 1) (omega arith)
 
-  pub kind_on : (r v w : ℕ) → (i + 1 ≡ n → ⊥) → Wide (at chain i) v → Wide (at chain (i + 1)) w → r ≡ ((columns g).parity v + (columns g).parity w) % 2
+  pub kind_on : (r : ℕ) → (i + 1 ≡ n → ⊥) → r ≡ ((columns g).parity (at chain i) + (columns g).parity (at chain (i + 1))) % 2
       → r ≡ kind_of (columns g).parity (at chain) n k i
   unfolding kind_of
-  kind_on r v w d a b e =
+  kind_on r d e =
       let d' : i + 1 ≢ n = d in
       let z : i + 1 ≡ suc i = omega arith in
-      rw (ne_eqb (suc i) n (λ q. omega arith), ← z, ← a.is, ← b.is) e
+      rw (ne_eqb (suc i) n (λ q. omega arith), ← z) e
 
 -- The direction
 
 module _ (n m k x y : ℕ) where
-  pub upward_two : (z : ℕ) → n ≡ 2 → z ≡ k → Upward n k x y (eqb z 0)
-  upward_two z e q =
-      cases (bool (eqb z 0))
-      (λ t. rw t (λ e'. sym q ∙ eqb-true z 0 t, λ o. absurd (o e)))
-      (λ f. rw f (λ e' o. eqb-false z 0 f (q ∙ o), λ o. absurd (o e)))
+  pub upward_two : (z : Wants) → n ≡ 2 → code z ≡ k → Upward n k x y (sameb the_type z Same)
+  upward_two Same e q = (λ _. sym q, λ o. absurd (o e))
+  upward_two Different e q = (λ _ o. omega (arith, q, o), λ o. absurd (o e))
 
   larger : (n ≡ 2 → ⊥) → Upward n k x y (leb x y)
   larger d =
@@ -149,7 +151,7 @@ module _ (n m r : ℕ) (chain : List ℕ) (t : Readable n chain) (h : m < n) whe
 unfoldable pub RingLines : List ℕ → ℕ → ℕ → Bool → ℕ → ℕ → Type 0
 RingLines chain n m up j v = v ≡ at chain (spot_of n m up j)
 
-unfoldable pub RingKinds : List ℕ → List ℕ → ℕ → ℕ → Bool → ℕ → ℕ → ℕ → Type 0
+unfoldable pub RingKinds : Groups → List ℕ → ℕ → ℕ → Bool → ℕ → ℕ → ℕ → Type 0
 RingKinds g chain n m up k j v = v ≡ kind_of (columns g).parity (at chain) n k (link_of n m up j)
 
 module _ (n m : ℕ) (up : Bool) (chain old : List ℕ) (j : ℕ) (l : List ℕ) (f : Filled (RingLines chain n m up) n j old l) where
@@ -161,11 +163,11 @@ module _ (n m : ℕ) (up : Bool) (chain old : List ℕ) (j : ℕ) (l : List ℕ)
   unfolding RingLines
   lines_traced h = record { written = λ i o. f.done i (omega arith); rest = λ i o. f.rest i (omega (arith, f.upto)) }
 
-module _ (n m : ℕ) (up : Bool) (k : ℕ) (g chain old : List ℕ) (j : ℕ) (l : List ℕ) (f : Filled (RingKinds g chain n m up k) n j old l) where
-  pub kinds_more : (r v : ℕ) → StepPlace n m up j r → j < n → v ≡ kind_of (columns g).parity (at chain) n k r
+module _ (n m : ℕ) (up : Bool) (k : ℕ) (g : Groups) (chain old : List ℕ) (j : ℕ) (l : List ℕ) (f : Filled (RingKinds g chain n m up k) n j old l) where
+  pub kinds_more : (r w v : ℕ) → StepPlace n m up j r → j < n → w ≡ kind_of (columns g).parity (at chain) n k r → v ≡ w
       → Filled (RingKinds g chain n m up k) n (j + 1) old (set l j v)
   unfolding RingKinds
-  kinds_more r v s h e = filled_more f h (e ∙ ap (kind_of (columns g).parity (at chain) n k) s.is)
+  kinds_more r w v s h e e' = filled_more f h (e' ∙ e ∙ ap (kind_of (columns g).parity (at chain) n k) s.is)
 
   pub kinds_traced : n ≤ j → TracedKinds (columns g).parity (at chain) n m up k old l
   unfolding RingKinds

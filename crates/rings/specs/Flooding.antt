@@ -4,9 +4,10 @@ use Rattle.std.specs.Prelude.{cond, List, ◌⊎◌, ◌≡◌, ℕ, suc, ◌*�
 use Rattle.laws.specs.Lists.{at}
 use Rattle.laws.specs.Chains.{Chained}
 use Rattle.groups.specs.Groups.{Tables, columns, Joins, Way}
+use Rattle.groups.specs.declared.Groups.{Groups}
 
 -- Each joining in the table is between two lines.
-pub record WithinLines (lines : ℕ) (g : List ℕ) : Type 0 where
+pub record WithinLines (lines : ℕ) (g : Groups) : Type 0 where
   pub few : lines ≤ 2048
   pub inside : (x : ℕ) → x < lines → ((columns g).from x < lines) × ((columns g).to x < lines)
 
@@ -15,14 +16,14 @@ abbrev pub Step : ℕ → Tables → ℕ → ℕ → Type 0
 Step lines t u v = Joins lines t.from t.to u v ⊎ Joins lines t.from t.to v u
 
 -- Half-step 2e goes from the first line of joining e to its second, half-step 2e + 1 back: the line that one leaves, and the line that it leads to.
-unfoldable pub leaves : List ℕ → ℕ → ℕ
+unfoldable pub leaves : Groups → ℕ → ℕ
 leaves g s = cond (eqb (s % 2) 0) ((columns g).from (s / 2)) ((columns g).to (s / 2))
 
-unfoldable pub arrives : List ℕ → ℕ → ℕ
+unfoldable pub arrives : Groups → ℕ → ℕ
 arrives g s = cond (eqb (s % 2) 0) ((columns g).to (s / 2)) ((columns g).from (s / 2))
 
 -- For each line the chain of the half-steps that leave it.
-abbrev pub StepChains : ℕ → List ℕ → List ℕ → List ℕ → Type 0
+abbrev pub StepChains : ℕ → Groups → List ℕ → List ℕ → Type 0
 StepChains lines g heads nexts = Chained 2048 4096 (2 * lines) (leaves g) heads nexts
 
 -- The first n places of the queue have the lines that are reached, each once. A line is reached where `via` has a line for it: that is one earlier in
@@ -36,25 +37,25 @@ pub record Queued (lines n : ℕ) (queue via : ℕ → ℕ) : Type 0 where
   pub earlier : (i : ℕ) → 0 < i → i < n → (j : ℕ) × (j < i) × (via (queue i) ≡ queue j)
 
 -- .. with a joining between the two.
-pub record Reach (lines : ℕ) (g : List ℕ) (n : ℕ) (queue via : List ℕ) : Type 0 where
+pub record Reach (lines : ℕ) (g : Groups) (n : ℕ) (queue via : List ℕ) : Type 0 where
   pub queues : length queue ≡ 2048
   pub vias : length via ≡ 2048
   pub queued : Queued lines n (at queue) (at via)
   pub twig : (i : ℕ) → 0 < i → i < n → Step lines (columns g) (at via (at queue i)) (at queue i)
 
 -- The flood went on from n lines to n': what was reached is reached still, at its place.
-pub record Further (lines : ℕ) (g : List ℕ) (n n' : ℕ) (queue via queue' via' : List ℕ) : Type 0 where
+pub record Further (lines : ℕ) (g : Groups) (n n' : ℕ) (queue via queue' via' : List ℕ) : Type 0 where
   pub reach : Reach lines g n' queue' via'
   pub more : n ≤ n'
   pub same : (i : ℕ) → i < n → at queue' i ≡ at queue i
   pub still : (y : ℕ) → at via y < lines → at via' y < lines
 
 -- The half-steps below m that leave x lead to lines that are reached.
-abbrev pub Spread : ℕ → List ℕ → ℕ → (ℕ → ℕ) → ℕ → Type 0
+abbrev pub Spread : ℕ → Groups → ℕ → (ℕ → ℕ) → ℕ → Type 0
 Spread lines g m via x = (s : ℕ) → s < m → leaves g s ≡ x → via (arrives g s) < lines
 
 -- x is reached, so that one may look from it.
-pub record Standing (lines x n : ℕ) (g queue via : List ℕ) : Type 0 where
+pub record Standing (lines x n : ℕ) (g : Groups) (queue via : List ℕ) : Type 0 where
   pub sound : WithinLines lines g
   pub inside : x < lines
   pub most : n ≤ lines
@@ -64,26 +65,26 @@ pub record Standing (lines x n : ℕ) (g queue via : List ℕ) : Type 0 where
   pub is_x : at queue place ≡ x
 
 -- What a look from x along the half-step s asks, and what it comes to.
-pub record LookFrom (lines x s n : ℕ) (g queue via : List ℕ) : Type 0 where
+pub record LookFrom (lines x s n : ℕ) (g : Groups) (queue via : List ℕ) : Type 0 where
   pub standing : Standing lines x n g queue via
   pub below : s < 2 * lines
   pub here : leaves g s ≡ x
 
-pub record Looked (lines s n n' : ℕ) (g queue via queue' via' : List ℕ) : Type 0 where
+pub record Looked (lines s n n' : ℕ) (g : Groups) (queue via queue' via' : List ℕ) : Type 0 where
   pub further : Further lines g n n' queue via queue' via'
   pub met : at via' (arrives g s) < lines
 
 -- .. and looks along all half-steps of x.
-pub record ScanFrom (lines x n : ℕ) (g heads nexts queue via : List ℕ) : Type 0 where
+pub record ScanFrom (lines x n : ℕ) (g : Groups) (heads nexts queue via : List ℕ) : Type 0 where
   pub standing : Standing lines x n g queue via
   pub chains : StepChains lines g heads nexts
 
-pub record Scanned (lines x n n' : ℕ) (g queue via queue' via' : List ℕ) : Type 0 where
+pub record Scanned (lines x n n' : ℕ) (g : Groups) (queue via queue' via' : List ℕ) : Type 0 where
   pub further : Further lines g n n' queue via queue' via'
   pub spread : Spread lines g (2 * lines) (at via') x
 
 -- What the flood from b to d asks: nothing is reached yet, and a way leads there.
-pub record Unflooded (lines b d : ℕ) (g heads nexts via : List ℕ) : Type 0 where
+pub record Unflooded (lines b d : ℕ) (g : Groups) (heads nexts via : List ℕ) : Type 0 where
   pub sound : WithinLines lines g
   pub chains : StepChains lines g heads nexts
   pub root : b < lines
@@ -93,7 +94,7 @@ pub record Unflooded (lines b d : ℕ) (g heads nexts via : List ℕ) : Type 0 w
   pub way : Way (Joins lines (columns g).from (columns g).to) b d
 
 -- What it comes to: d is reached.
-pub record Found (lines b d : ℕ) (g via : List ℕ) : Type 0 where
+pub record Found (lines b d : ℕ) (g : Groups) (via : List ℕ) : Type 0 where
   pub size : ℕ
   pub queue : List ℕ
   pub reach : Reach lines g size queue via
@@ -122,7 +123,7 @@ pub record Trail (lines b d : ℕ) (via : ℕ → ℕ) (n : ℕ) (chain : List �
   pub along : (i : ℕ) → suc i < n → at chain (suc i) ≡ via (at chain i)
 
 -- What finding a chain of joinings asks, and what it gives: n different lines from d to b.
-pub record Reachable (lines b d : ℕ) (g chain : List ℕ) : Type 0 where
+pub record Reachable (lines b d : ℕ) (g : Groups) (chain : List ℕ) : Type 0 where
   pub sound : WithinLines lines g
   pub first : b < lines
   pub second : d < lines

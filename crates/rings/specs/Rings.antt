@@ -5,6 +5,7 @@ use Rattle.laws.specs.Lists.{at, Past}
 use Rattle.side.specs.Sides.{same}
 use Rattle.groups.specs.Constraints.{Constraints, Between}
 use Rattle.groups.specs.Groups.{Tables, columns, Joins, Way}
+use Rattle.groups.specs.declared.Groups.{Groups}
 use Rattle.rings.specs.Ring.{Ring}
 
 -- The constraints that joined groups, with the kinds that the parities say, and the one between b and d that does not agree.
@@ -23,7 +24,7 @@ pub record Torn (lines : ℕ) (t : Tables) (b d k : ℕ) : Type 0 where
   pub way : Way (Joins lines t.from t.to) b d
 
 -- What is asked: a conflict in the table of groups, and room for as many lines as there are.
-pub record Showing (lines b d k : ℕ) (g ring kinds : List ℕ) : Type 0 where
+pub record Showing (lines b d k : ℕ) (g : Groups) (ring kinds : List ℕ) : Type 0 where
   pub conflict : Torn lines (columns g) b d k
   pub ring_room : lines ≤ length ring
   pub kind_room : lines ≤ length kinds

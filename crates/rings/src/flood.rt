@@ -5,19 +5,19 @@
 ghost use Rattle.rings.specs.Flooding.{LookFrom, Looked, ScanFrom, Scanned, Unflooded, Found};
 
 use crate::steps::far_end;
-use groups::wide;
+use groups::Groups;
+use network::chains::Chains;
 
 // Reaches lines from b on until d is reached. A way leads there, so that the queue does not run out before.
 pub(crate) fn flood(
     lines: usize,
     b: usize,
     d: usize,
-    groups: &[u16; 8192],
-    heads: &[u16; 2048],
-    nexts: &[u16; 4096],
+    groups: &Groups,
+    chains: &Chains<2048, 4096>,
     via: &mut [u16; 2048],
 )
-    requires { Unflooded lines b d groups.now heads.now nexts.now via.old }
+    requires { Unflooded lines b d groups.now chains.now.heads chains.now.nexts via.old }
     ensures { Found lines b d groups.now via.new }
 {
     let mut queue = [0u16; 2048];
@@ -25,9 +25,9 @@ pub(crate) fn flood(
     via[b] = b as u16;
     let mut n = 1;
     let mut head = 0;
-    while lines <= wide(via[d]) {
-        let x = wide(queue[head]);
-        n = scan(lines, x, n, groups, heads, nexts, &mut queue, via);
+    while lines <= via[d] as usize {
+        let x = queue[head] as usize;
+        n = scan(lines, x, n, groups, chains, &mut queue, via);
         head += 1;
     }
 }
@@ -37,20 +37,19 @@ fn scan(
     lines: usize,
     x: usize,
     n: usize,
-    groups: &[u16; 8192],
-    heads: &[u16; 2048],
-    nexts: &[u16; 4096],
+    groups: &Groups,
+    chains: &Chains<2048, 4096>,
     queue: &mut [u16; 2048],
     via: &mut [u16; 2048],
 ) -> usize
-    requires { ScanFrom lines x n groups.now heads.now nexts.now queue.old via.old }
+    requires { ScanFrom lines x n groups.now chains.now.heads chains.now.nexts queue.old via.old }
     ensures { Scanned lines x n result groups.now queue.old via.old queue.new via.new }
 {
     let mut k = n;
-    let mut s = wide(heads[x]);
+    let mut s = chains.heads[x] as usize;
     while s < 2 * lines {
         k = look(lines, x, s, k, groups, queue, via);
-        s = wide(nexts[s]);
+        s = chains.nexts[s] as usize;
     }
     k
 }
@@ -61,7 +60,7 @@ fn look(
     x: usize,
     s: usize,
     n: usize,
-    groups: &[u16; 8192],
+    groups: &Groups,
     queue: &mut [u16; 2048],
     via: &mut [u16; 2048],
 ) -> usize
@@ -69,7 +68,7 @@ fn look(
     ensures { Looked lines s n result groups.now queue.old via.old queue.new via.new }
 {
     let y = far_end(s, groups);
-    if wide(via[y]) < lines {
+    if (via[y] as usize) < lines {
         return n;
     }
     queue[n] = y as u16;

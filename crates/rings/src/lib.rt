@@ -12,24 +12,26 @@ mod flood; // the flood along half-steps
 mod steps; // half-steps, chained by the lines that they leave
 
 ghost use Rattle.laws.specs.Lists.{at};
+ghost use Rattle.side.specs.Sides.{code};
 ghost use Rattle.groups.specs.Groups.{columns};
 ghost use Rattle.rings.specs.Flooding.{Climbable, Trail, SimpleWay, Reachable};
 ghost use Rattle.rings.specs.Rings.{Showing, Shown};
 
-use groups::wide;
+use groups::Groups;
+use side::Wants;
 
 // Writes the ring that the constraint between b and d closes, its lines and their kinds, and answers how many lines it has.
 pub fn show(
     lines: usize,
-    groups: &[u16; 8192],
+    groups: &Groups,
     b: usize,
     d: usize,
-    kind: u8,
+    kind: Wants,
     ring: &mut [u16],
     kinds: &mut [u8],
 ) -> usize
-    requires { Showing lines b d kind groups.now ring.old kinds.old }
-    ensures { Shown lines (columns groups.now) b d kind result
+    requires { Showing lines b d (code kind) groups.now ring.old kinds.old }
+    ensures { Shown lines (columns groups.now) b d (code kind) result
         ring.old kinds.old ring.new kinds.new }
 {
     let mut chain = [0u16; 2048];
@@ -39,22 +41,13 @@ pub fn show(
 }
 
 // Writes different lines from d to b, each with a joining to the next, and answers how many there are.
-fn find_chain(
-    lines: usize,
-    b: usize,
-    d: usize,
-    groups: &[u16; 8192],
-    chain: &mut [u16; 2048],
-) -> usize
+fn find_chain(lines: usize, b: usize, d: usize, groups: &Groups, chain: &mut [u16; 2048]) -> usize
     requires { Reachable lines b d groups.now chain.old }
     ensures { SimpleWay lines b d (columns groups.now) result (at chain.new) }
 {
-    let none = (2 * lines) as u16;
-    let mut heads = [none; 2048];
-    let mut nexts = [none; 4096];
-    steps::link_all(lines, groups, &mut heads, &mut nexts);
+    let chains = steps::link_all(lines, groups);
     let mut via = [lines as u16; 2048];
-    flood::flood(lines, b, d, groups, &heads, &nexts, &mut via);
+    flood::flood(lines, b, d, groups, &chains, &mut via);
     climb(lines, b, d, &via, chain)
 }
 
@@ -67,7 +60,7 @@ fn climb(lines: usize, b: usize, d: usize, via: &[u16; 2048], chain: &mut [u16; 
     let mut x = d;
     let mut n = 1;
     while x != b {
-        x = wide(via[x]);
+        x = via[x] as usize;
         chain[n] = x as u16;
         n += 1;
     }

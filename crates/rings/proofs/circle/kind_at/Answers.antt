@@ -1,12 +1,9 @@
 -- `kind_at` computes its definition.
-use Rattle.rings.proofs.Reading.{kind_home, kind_here, kind_there, kind_on}
+use Rattle.rings.proofs.Reading.{kind_home, kind_on}
 use Rattle.rings.proofs.circle.kind_at.Goals as goal
 
 pub returns-then-i-n : goal.returns-then-i-n
 returns-then-i-n c = search kind_home
-
-pub kind_between-requires : goal.kind_between-requires
-kind_between-requires c = (search kind_here, search kind_there)
 
 pub returns : goal.returns
 returns c = search kind_on

@@ -3,8 +3,8 @@ use Prim.Native.Nat.{◌-◌}
 use Rattle.rings.proofs.Flooding.{Flood}
 use Rattle.rings.proofs.flood.flood.Given as goal
 
-abbrev pub invariant-loop-queue : goal.invariant-loop-queue
-invariant-loop-queue l = Flood l.lines l.b l.head l.n l.groups l.queue l.via
+abbrev pub invariant-loop-via : goal.invariant-loop-via
+invariant-loop-via l = Flood l.lines l.b l.head l.n l.groups l.queue l.via
 
-abbrev pub decreases-loop-queue : goal.decreases-loop-queue
-decreases-loop-queue l = l.lines - l.head
+abbrev pub decreases-loop-via : goal.decreases-loop-via
+decreases-loop-via l = l.lines - l.head
