@@ -7,6 +7,7 @@ use Prim.Native.Nat.{ℕ, ◌+◌, ◌-◌, ◌/◌, ◌≤◌, ◌<◌}
 use native.Mathlib.Omega.{arith}
 use lib.ListN.{length}
 use borrow.Author.Tests.{lt-ltb, le-ltb}
+use Rattle.std.specs.Prelude.{Result, Ok, Err, is_err, ⊤}
 use Rattle.laws.specs.Tests.{either}
 use Rattle.laws.specs.Checks.{Check}
 use Rattle.laws.specs.Lists.{at, Past, Kept}
@@ -15,20 +16,25 @@ use Rattle.laws.proofs.Cases.{true_false}
 use Rattle.laws.proofs.Tests.{either_first, either_second, either_no}
 use Rattle.laws.proofs.Dictionary.{first_same, next_same}
 use Rattle.network.specs.Network.{Network, network}
-use Rattle.network.specs.Numbers.{refused, done, oversize, odd, Untouched, triple}
-use Rattle.network.specs.declared.Answer.{Answer}
-use Rattle.network.proofs.Sifting.{refuse_2, refuse_3, refuse_rest, untouched}
+use Rattle.network.specs.Numbers.{Answer, refused, refusal_number, refusing, done, oversize, odd, Untouched, triple}
+use Rattle.network.specs.declared.Refusal.{Refusal}
+use Rattle.network.proofs.Refusing.{refusal_some, refusing_plain}
+use Rattle.network.proofs.Sifting.{refuse_3, refuse_rest, untouched}
 use Rattle.tree.specs.Tree.{Tree}
 use Rattle.tree.specs.Returns.{backb}
 use Rattle.tree.specs.Words.{Return}
 use Rattle.tree.specs.Searched.{Searched}
 use Rattle.tree.proofs.Returns.{one_way}
+use Rattle.search.specs.Inside.{Faulted}
 use Rattle.search.specs.Machine.{tree_in}
+use Rattle.search.proofs.Calls.{faulted_few}
 use Rattle.fork.specs.Ends.{top}
 use Rattle.fork.specs.Fork.{Constraint}
 use Rattle.fork.specs.Link.{Link, to_top, tops, to_bottom, turned}
 use Rattle.fork.proofs.Ends.{top_is, high_some}
+use Rattle.side.specs.Sides.{code}
 use Rattle.groups.specs.Constraints.{Satisfies}
+use Rattle.groups.specs.declared.Groups.{Groups}
 use Rattle.groups.specs.Groups.{Tables, columns, fitsb}
 use Rattle.groups.specs.Calls.{Reading, Copied, Advanced, Stuck}
 use Rattle.groups.proofs.Answers.{copied_first, advanced_next, stuck_last, reading}
@@ -37,8 +43,7 @@ use Rattle.rings.specs.Ring.{Ring}
 use Rattle.rings.specs.Rings.{Showing, Shown}
 use Rattle.rings.proofs.Showing.{torn, ring_shown}
 use Rattle.links.specs.Inside.{Closed, Taken, Together, Unkept}
-use Rattle.links.specs.declared.Tie.{Tie}
-use Rattle.links.specs.declared.Tie.TheVariants.{Holds, Tears}
+use Rattle.links.specs.declared.Tear.{Tear}
 use Rattle.links.proofs.Tying.{link_sided}
 use Rattle.descents.specs.Inside.{Sorted, all_kept, one_torn}
 use Rattle.choice.specs.Choice.{Drawable, Proper, Outdone}
@@ -67,15 +72,15 @@ link_apart S X (tops f g k o) e =
     let q = high_some S g (omega (arith, o.under)) in
     k.apart (one_way S X f g (top S f) k.first k.second k.one_vertex (top_is S f p.0 p.1).return (subst (λ (x : ℕ). Return S g x) (sym e) (top_is S g q.0 q.1).return))
 
-module _ (S : Tree) (X : Searched S) (few : S.lines ≤ 2048) (g : List ℕ) (long : length g ≡ 8192) {tie : Tie} (s : Sorted S (columns g) tie) where
+module _ (S : Tree) (X : Searched S) (few : S.lines ≤ 2048) (g : Groups) {outcome : Result ⊤ Tear} (s : Sorted S (columns g) outcome) where
   abbrev t : Tables
   t = columns g
 
-  module _ (e : tie ≡ Holds) where
+  module _ (e : outcome ≡ Ok tt) where
     kept : Together S t × ((b d k : ℕ) → Link S b d k → Closed t b d k)
     kept = go (rw e at s)
       where
-        go : Sorted S t Holds → Together S t × ((b d k : ℕ) → Link S b d k → Closed t b d k)
+        go : Sorted S t (Ok tt) → Together S t × ((b d k : ℕ) → Link S b d k → Closed t b d k)
         go (all_kept q a) = (q, a)
 
     to_proper : (c : ℕ → ℕ) → Satisfies S.lines (backb S) (Taken S t) c → Proper S c
@@ -90,7 +95,7 @@ module _ (S : Tree) (X : Searched S) (few : S.lines ≤ 2048) (g : List ℕ) (lo
         (copied_first S.lines (backb S) (Taken S t) g kept.0 choice choice' c)
 
     pub sorted_reading : (choice : List ℕ) → S.lines ≤ length choice → Reading S.lines g choice
-    sorted_reading choice h = reading S.lines (backb S) (Taken S t) g kept.0 choice few long h
+    sorted_reading choice h = reading S.lines (backb S) (Taken S t) g kept.0 choice few h
 
     pub sorted_fits : (choice : List ℕ) → fitsb S.lines (columns g).leader (columns g).parity (at choice) ≡ true → Proper S (at choice)
     sorted_fits choice y = to_proper (at choice) (fits_obeys S.lines (backb S) (Taken S t) t kept.0 (at choice) y)
@@ -109,57 +114,69 @@ module _ (S : Tree) (X : Searched S) (few : S.lines ≤ 2048) (g : List ℕ) (lo
           stuck_last S.lines (backb S) (Taken S t) g kept.0 choice choice' (from_proper (at choice) p) k
           d.0 (from_proper d.0 d.1) d.2
 
-  module _ {b d k : ℕ} (e : tie ≡ Tears b d k) where
-    torn_by : Together S t × Unkept S t b d k
+  module _ {r : Tear} (e : outcome ≡ Err r) where
+    torn_by : Together S t × Unkept S t r.one r.two (code r.wants)
     torn_by = go (rw e at s)
       where
-        go : Sorted S t (Tears b d k) → Together S t × Unkept S t b d k
+        go : Sorted S t (Err r) → Together S t × Unkept S t r.one r.two (code r.wants)
         go (one_torn q u) = (q, u)
 
     pub torn_none : Drawable S → ⊥
-    torn_none = none_drawable S X t torn_by.0 b d k torn_by.1
+    torn_none = none_drawable S X t torn_by.0 r.one r.two (code r.wants) torn_by.1
 
     pub torn_improper : (c : ℕ → ℕ) → Proper S c → ⊥
-    torn_improper = none_proper S X t torn_by.0 b d k torn_by.1
+    torn_improper = none_proper S X t torn_by.0 r.one r.two (code r.wants) torn_by.1
 
-    pub torn_showing : (ring kinds : List ℕ) → S.lines ≤ length ring → S.lines ≤ length kinds → Showing S.lines b d k g ring kinds
+    pub torn_showing : (ring kinds : List ℕ) → S.lines ≤ length ring → S.lines ≤ length kinds → Showing S.lines r.one r.two (code r.wants) g ring kinds
     torn_showing ring kinds h h' =
         let u = torn_by.1 in
         let ends = link_sided S u.link in
         record {
-          conflict = torn S.lines (backb S) (Taken S t) t torn_by.0 b d k ends.0 ends.1 few (link_small u.link) (link_apart S X u.link) u.together u.odd;
+          conflict = torn S.lines (backb S) (Taken S t) t torn_by.0 r.one r.two (code r.wants) ends.0 ends.1 few (link_small u.link) (link_apart S X u.link) u.together u.odd;
           ring_room = h;
           kind_room = h';
         }
 
-    pub torn_ring : (n : ℕ) (ring kinds ring' kinds' : List ℕ) → Shown S.lines t b d k n ring kinds ring' kinds'
+    pub torn_ring : (n : ℕ) (ring kinds ring' kinds' : List ℕ) → Shown S.lines t r.one r.two (code r.wants) n ring kinds ring' kinds'
         → Ring (Constraint S) n (at ring') (at kinds')
     torn_ring n ring kinds ring' kinds' s =
         let u = torn_by.1 in
         let ends = link_sided S u.link in
-        ring_constraints S X t torn_by.0 b d k u n (at ring') (at kinds')
-        (ring_shown S.lines (backb S) (Taken S t) t torn_by.0 b d k n ring kinds ring' kinds' s)
+        ring_constraints S X t torn_by.0 r.one r.two (code r.wants) u n (at ring') (at kinds')
+        (ring_shown S.lines (backb S) (Taken S t) t torn_by.0 r.one r.two (code r.wants) n ring kinds ring' kinds' s)
+
+-- the two things that an outcome can be
+pub torn_of : {outcome : Result ⊤ Tear} → true ≡ is_err outcome → (r : Tear) × (outcome ≡ Err r)
+torn_of {outcome = Ok tt} e = absurd (cc)
+torn_of {outcome = Err r} e = (r, refl)
+
+pub kept_of : {outcome : Result ⊤ Tear} → false ≡ is_err outcome → outcome ≡ Ok tt
+kept_of {outcome = Ok tt} e = refl
+kept_of {outcome = Err r} e = absurd (cc)
 
 -- What the functions below are asked
 
-module _ (n : ℕ) (ends : List ℕ) (number : ℕ) (g : List ℕ) (tie : Tie) (h : Gathered n ends number g tie) (z : number ≡ 0) where
-  pub gathered_reading : tie ≡ Holds → (choice : List ℕ) → length ends / 2 ≤ length choice → Reading (length ends / 2) g choice
+module _ {n : ℕ} {ends : List ℕ} {g : Groups} {outcome : Result ⊤ Tear} (h : Gathered n ends 0 g outcome) where
+  pub gathered_reading : outcome ≡ Ok tt → (choice : List ℕ) → length ends / 2 ≤ length choice → Reading (length ends / 2) g choice
   gathered_reading e choice bytes =
-      sorted_reading (tree_in (network n ends)) (faultless_searched n ends number h.fault z) (faultless_few n ends number h.fault z) g (h.long z) (h.sorted z) e choice bytes
+      sorted_reading (tree_in (network n ends)) (faultless_searched h.fault) (faultless_few h.fault) g (h.sorted refl) e choice bytes
 
-  pub gathered_showing : {b d k : ℕ} → tie ≡ Tears b d k → (rl rk : List ℕ) → length ends / 2 ≤ length rl → length ends / 2 ≤ length rk
-      → Showing (length ends / 2) b d k g rl rk
+  pub gathered_showing : {r : Tear} → outcome ≡ Err r → (rl rk : List ℕ) → length ends / 2 ≤ length rl → length ends / 2 ≤ length rk
+      → Showing (length ends / 2) r.one r.two (code r.wants) g rl rk
   gathered_showing e rl rk lines kinds =
-      torn_showing (tree_in (network n ends)) (faultless_searched n ends number h.fault z) (faultless_few n ends number h.fault z) g (h.long z) (h.sorted z) e rl rk lines kinds
+      torn_showing (tree_in (network n ends)) (faultless_searched h.fault) (faultless_few h.fault) g (h.sorted refl) e rl rk lines kinds
 
 -- First choice
 
-module _ (n : ℕ) (ends choice rl rk : List ℕ) (two : Bool) (is_two : two ≡ oversize n (length ends)) where
+module _ (n : ℕ) (ends choice rl rk : List ℕ) where
   abbrev m : ℕ
   m = length ends / 2
 
   abbrev net : Network
   net = network n ends
+
+  abbrev short : Bool
+  short = cramped_first ends choice rl rk
 
   abbrev Nothing : Answer → List ℕ → List ℕ → List ℕ → ℕ → Type 0
   Nothing a c l k = Untouched (triple choice rl rk) a (triple c l k)
@@ -167,80 +184,79 @@ module _ (n : ℕ) (ends choice rl rk : List ℕ) (two : Bool) (is_two : two ≡
   abbrev Granted : Answer → List ℕ → List ℕ → List ℕ → Type 0
   Granted a c l k = Check (Drawable (tree_in net)) (Chosen net choice rl rk a c l k) (Ringed net choice rl rk a c l k)
 
-  pub first_2 : two ≡ true → (a : Answer) → a ≡ refused 2 → FirstChoice n ends choice rl rk a choice rl rk
-  first_2 t a e = refuse_2 n ends (cramped_first ends choice rl rk) (Nothing a choice rl rk) (Granted a choice rl rk) (sym is_two ∙ t) (untouched e)
+  abbrev Left : ℕ → Type 0
+  Left k = FirstChoice n ends choice rl rk (refused k) choice rl rk
 
-  module _ (not_two : two ≡ false) (three : Bool) (is_three : three ≡ odd (length ends)) where
-    first_3 : either (odd (length ends)) (cramped_first ends choice rl rk) ≡ true → (a : Answer) → a ≡ refused 3 → FirstChoice n ends choice rl rk a choice rl rk
-    first_3 t a e = refuse_3 n ends (cramped_first ends choice rl rk) (Nothing a choice rl rk) (Granted a choice rl rk) (sym is_two ∙ not_two) t (untouched e)
+  module _ (in_limits : false ≡ oversize n (length ends)) where
+    first_3 : either (odd (length ends)) short ≡ true → Left 3
+    first_3 t = refuse_3 n ends short (Nothing (refused 3) choice rl rk) (Granted (refused 3) choice rl rk) (sym in_limits) t (untouched refl)
 
-    pub first_odd : three ≡ true → (a : Answer) → a ≡ refused 3 → FirstChoice n ends choice rl rk a choice rl rk
-    first_odd t = first_3 (either_first _ _ (sym is_three ∙ t))
+    pub first_odd : true ≡ odd (length ends) → Left 3
+    first_odd t = first_3 (either_first _ _ (sym t))
 
-    pub first_few_bytes : length choice < m → (a : Answer) → a ≡ refused 3 → FirstChoice n ends choice rl rk a choice rl rk
+    pub first_few_bytes : length choice < m → Left 3
     unfolding cramped_first
     first_few_bytes h = first_3 (either_second _ _ (either_first _ _ (lt-ltb _ _ h)))
 
-    pub first_few_lines : length rl < m → (a : Answer) → a ≡ refused 3 → FirstChoice n ends choice rl rk a choice rl rk
+    pub first_few_lines : length rl < m → Left 3
     unfolding cramped_first
     first_few_lines h = first_3 (either_second _ _ (either_second _ _ (either_first _ _ (lt-ltb _ _ h))))
 
-    pub first_few_kinds : length rk < m → (a : Answer) → a ≡ refused 3 → FirstChoice n ends choice rl rk a choice rl rk
+    pub first_few_kinds : length rk < m → Left 3
     unfolding cramped_first
     first_few_kinds h = first_3 (either_second _ _ (either_second _ _ (either_second _ _ (lt-ltb _ _ h))))
 
-    module _ (not_three : three ≡ false) (bytes : m ≤ length choice) (lines : m ≤ length rl) (kinds : m ≤ length rk) (number : ℕ) (g : List ℕ) (tie : Tie) (h : Gathered n ends number g tie) where
-      enough : either (odd (length ends)) (cramped_first ends choice rl rk) ≡ false
-      unfolding cramped_first
-      enough = either_no (sym is_three ∙ not_three) (either_no (le-ltb _ _ bytes) (either_no (le-ltb _ _ lines) (le-ltb _ _ kinds)))
+  -- nothing is odd or short
+  module _ (even : false ≡ odd (length ends)) (bytes : m ≤ length choice) (lines : m ≤ length rl) (kinds : m ≤ length rk) where
+    enough : either (odd (length ends)) short ≡ false
+    unfolding cramped_first
+    enough = either_no (sym even) (either_no (le-ltb _ _ bytes) (either_no (le-ltb _ _ lines) (le-ltb _ _ kinds)))
 
-      pub first_refused : (number ≡ 0 → ⊥) → (a : Answer) → a ≡ refused number → FirstChoice n ends choice rl rk a choice rl rk
-      first_refused d a e =
-          refuse_rest n ends (cramped_first ends choice rl rk) (Nothing a choice rl rk) (Granted a choice rl rk) enough h.fault
-          (λ k some (u : number ≡ k). untouched (e ∙ ap refused u))
-          (λ (u : number ≡ 0). absurd (d u))
+    pub first_refused : (e : Refusal) → Faulted n ends (refusal_number e) → FirstChoice n ends choice rl rk (refusing e) choice rl rk
+    first_refused e h =
+        refuse_rest n ends short (Nothing (refusing e) choice rl rk) (Granted (refusing e) choice rl rk) enough h
+        (λ k some (u : refusal_number e ≡ k). untouched (refusing_plain e (faulted_few n ends (refusal_number e) h) ∙ ap refused u))
+        (λ u. absurd (refusal_some e u))
 
-      module _ (z : number ≡ 0) where
-        X : Searched (tree_in net)
-        X = faultless_searched n ends number h.fault z
+    module _ {g : Groups} {outcome : Result ⊤ Tear} (h : Gathered n ends 0 g outcome) where
+      X : Searched (tree_in net)
+      X = faultless_searched h.fault
 
-        few : m ≤ 2048
-        few = faultless_few n ends number h.fault z
+      few : m ≤ 2048
+      few = faultless_few h.fault
 
-        grant : (a : Answer) (c l k : List ℕ) → Granted a c l k → FirstChoice n ends choice rl rk a c l k
-        grant a c l k y =
-            refuse_rest n ends (cramped_first ends choice rl rk) (Nothing a c l k) (Granted a c l k) enough h.fault (λ j some (u : number ≡ j). absurd (omega arith)) (λ _. y)
+      grant : (a : Answer) (c l k : List ℕ) → Granted a c l k → FirstChoice n ends choice rl rk a c l k
+      grant a c l k y = refuse_rest n ends short (Nothing a c l k) (Granted a c l k) enough h.fault (λ j some (u : 0 ≡ j). absurd (omega arith)) (λ _. y)
 
-        pub first_chosen : tie ≡ Holds → (a : Answer) (choice' : List ℕ) → a ≡ done (m + 1 - n) 0 → Copied m g choice choice' → length choice' ≡ length choice
-            → FirstChoice n ends choice rl rk a choice' rl rk
-        first_chosen e a choice' is c long =
-            let f = sorted_first (tree_in net) X few g (h.long z) (h.sorted z) e choice choice' c in
-            grant a choice' rl rk
-            (inl (
-              (at choice', f.good.aligned.legal),
-              record {
-                answers = is ∙ faultless_done n ends number h.fault z;
-                first = f;
-                rest = past_kept long c.rest;
-                same_lines = refl;
-                same_kinds = refl;
-              },
-            ))
+      pub first_chosen : outcome ≡ Ok tt → {choice' : List ℕ} → Copied m g choice choice' → length choice' ≡ length choice
+          → FirstChoice n ends choice rl rk (done (m + 1 - n) 0) choice' rl rk
+      first_chosen e {choice'} c long =
+          let f = sorted_first (tree_in net) X few g (h.sorted refl) e choice choice' c in
+          grant (done (m + 1 - n) 0) choice' rl rk
+          (inl (
+            (at choice', f.good.aligned.legal),
+            record {
+              answers = faultless_done h.fault;
+              first = f;
+              rest = past_kept long c.rest;
+              same_lines = refl;
+              same_kinds = refl;
+            },
+          ))
 
-        pub first_ringed : {b d k : ℕ} → tie ≡ Tears b d k → (a : Answer) (size : ℕ) (rl' rk' : List ℕ) → a ≡ record { number = 7; count = 0; second = size }
-            → Shown m (columns g) b d k size rl rk rl' rk' → length rl' ≡ length rl → length rk' ≡ length rk
-            → FirstChoice n ends choice rl rk a choice rl' rk'
-        first_ringed e a size rl' rk' is s l l' =
-            grant a choice rl' rk'
-            (inr (
-              torn_none (tree_in net) X few g (h.long z) (h.sorted z) e,
-              record {
-                size = size;
-                answers = is;
-                few = s.few;
-                ring = torn_ring (tree_in net) X few g (h.long z) (h.sorted z) e size rl rk rl' rk' s;
-                lines_rest = past_kept l s.ring_rest;
-                kinds_rest = past_kept l' s.kinds_rest;
-                same_choice = refl;
-              },
-            ))
+      pub first_ringed : {r : Tear} → outcome ≡ Err r → {size : ℕ} {rl' rk' : List ℕ} → Shown m (columns g) r.one r.two (code r.wants) size rl rk rl' rk'
+          → length rl' ≡ length rl → length rk' ≡ length rk → FirstChoice n ends choice rl rk (record { number = 7; count = 0; second = size }) choice rl' rk'
+      first_ringed e {size} {rl'} {rk'} s l l' =
+          grant (record { number = 7; count = 0; second = size }) choice rl' rk'
+          (inr (
+            torn_none (tree_in net) X few g (h.sorted refl) e,
+            record {
+              size = size;
+              answers = refl;
+              few = s.few;
+              ring = torn_ring (tree_in net) X few g (h.sorted refl) e size rl rk rl' rk' s;
+              lines_rest = past_kept l s.ring_rest;
+              kinds_rest = past_kept l' s.kinds_rest;
+              same_choice = refl;
+            },
+          ))

@@ -1,9 +1,10 @@
 -- What the beginning leaves: the tables of a finished search, and the groups of the tree in them.
 use mathlib.Core.List.{List}
-use mathlib.Core.Path.{◌≡◌, sym, ap, subst}
+use mathlib.Core.Path.{◌≡◌, refl, sym, ap, subst}
 use Prim.Native.Nat.{ℕ, ◌+◌, ◌-◌, ◌/◌, ◌≤◌}
 use native.Mathlib.Omega.{arith}
 use lib.ListN.{length}
+use Rattle.std.specs.Prelude.{Result, ⊤}
 use Rattle.network.specs.Network.{network}
 use Rattle.network.specs.Numbers.{done}
 use Rattle.tree.specs.Tree.{Tree, tree_of}
@@ -16,16 +17,18 @@ use Rattle.search.proofs.Deep.{finished_both}
 use Rattle.search.proofs.Grows.{grown, line_kind, backs_counted}
 use Rattle.search.proofs.Calls.{explored, explore_faulted, faultless}
 use Rattle.fork.specs.Inside.{Known}
-use Rattle.links.specs.declared.Tie.{Tie}
+use Rattle.fork.specs.declared.Forks.{Forks}
+use Rattle.groups.specs.declared.Groups.{Groups}
+use Rattle.links.specs.declared.Tear.{Tear}
 use Rattle.descents.specs.Inside.{Grouping}
 use Rattle.choice.specs.Inside.{Begun, Gathered}
 
--- A search with the number 0
+-- A search that is not refused
 
-module _ (n : ℕ) (ends : List ℕ) (number : ℕ) (ks hs ps : List ℕ) (x : Explored n ends (search_of number ks hs ps)) (z : number ≡ 0) where
+module _ {n : ℕ} {ends ks hs ps : List ℕ} (x : Explored n ends (search_of 0 ks hs ps)) where
   pub explored_known : Known n (length ends / 2) ends ks hs ps
   explored_known =
-      let f = explored n ends (search_of number ks hs ps) x z in
+      let f = explored n ends (search_of 0 ks hs ps) x refl in
       let net = network n ends in
       let s = (finished_both net f.0).0 in
       subst (λ (q : Search). Known n (length ends / 2) ends q.kinds q.heights q.parents) (sym f.2)
@@ -42,39 +45,34 @@ module _ (n : ℕ) (ends : List ℕ) (number : ℕ) (ks hs ps : List ℕ) (x : E
 
   pub explored_tree : tree_of n (length ends / 2) ends ks hs ps ≡ tree_in (network n ends)
   explored_tree =
-      ap (λ (q : Search). tree_of n (length ends / 2) ends q.kinds q.heights q.parents) (explored n ends (search_of number ks hs ps) x z).2
+      ap (λ (q : Search). tree_of n (length ends / 2) ends q.kinds q.heights q.parents) (explored n ends (search_of 0 ks hs ps) x refl).2
 
--- The beginning itself
+-- The beginning is that of the tree in the tables
 
-module _ (n : ℕ) (ends : List ℕ) (number : ℕ) (ks hs ps : List ℕ) (x : Explored n ends (search_of number ks hs ps)) where
-  pub begun_refused : (number ≡ 0 → ⊥) → (forks g : List ℕ) (tie : Tie) → Begun n ends (search_of number ks hs ps) forks g tie
-  begun_refused d forks g tie = record { explored = x; grouping = λ z. absurd (d z) }
+pub begun_of : {n : ℕ} {ends ks hs ps : List ℕ} {forks : Forks} {g : Groups} {outcome : Result ⊤ Tear} → Explored n ends (search_of 0 ks hs ps)
+    → Grouping (tree_of n (length ends / 2) ends ks hs ps) forks g outcome → Begun n ends (search_of 0 ks hs ps) forks g outcome
+begun_of {forks = forks} {g = g} {outcome = outcome} x y =
+    record { explored = x; grouping = λ _. subst (λ (S : Tree). Grouping S forks g outcome) (explored_tree x) y }
 
-  pub begun_grouped : number ≡ 0 → (forks g : List ℕ) (tie : Tie) → Grouping (tree_of n (length ends / 2) ends ks hs ps) forks g tie
-      → Begun n ends (search_of number ks hs ps) forks g tie
-  begun_grouped z forks g tie q =
-      record { explored = x; grouping = λ _. subst (λ (S : Tree). Grouping S forks g tie) (explored_tree n ends number ks hs ps x z) q }
-
-pub begun_gathered : {n : ℕ} {ends : List ℕ} {number : ℕ} {ks hs ps forks g : List ℕ} {tie : Tie} → Begun n ends (search_of number ks hs ps) forks g tie
-    → Gathered n ends number g tie
+pub begun_gathered : {n : ℕ} {ends : List ℕ} {number : ℕ} {ks hs ps : List ℕ} {forks : Forks} {g : Groups} {outcome : Result ⊤ Tear} → Begun n ends (search_of number ks hs ps) forks g outcome
+    → Gathered n ends number g outcome
 begun_gathered {n} {ends} {number} {ks} {hs} {ps} b =
     record {
       fault = explore_faulted n ends number ks hs ps b.explored;
-      long = λ z. (b.grouping z).long;
       sorted = λ z. (b.grouping z).sorted;
     }
 
--- A number 0
+-- A network that is not refused
 
-module _ (n : ℕ) (ends : List ℕ) (number : ℕ) (x : Faulted n ends number) (z : number ≡ 0) where
+module _ {n : ℕ} {ends : List ℕ} (x : Faulted n ends 0) where
   pub faultless_searched : Searched (tree_in (network n ends))
-  faultless_searched = let f = faultless n ends number x z in searched n (length ends / 2) ends _ _ _ (grown (network n ends) f.0 f.1)
+  faultless_searched = let f = faultless n ends 0 x refl in searched n (length ends / 2) ends _ _ _ (grown (network n ends) f.0 f.1)
 
   pub faultless_few : length ends / 2 ≤ 2048
-  faultless_few = (faultless n ends number x z).0.few_lines
+  faultless_few = (faultless n ends 0 x refl).0.few_lines
 
   counted : back_lines (network n ends) + n ≡ length ends / 2 + 1
-  counted = let f = faultless n ends number x z in backs_counted (network n ends) f.0 f.1
+  counted = let f = faultless n ends 0 x refl in backs_counted (network n ends) f.0 f.1
 
   -- the number of back lines that is handed out
   pub faultless_fits : n ≤ length ends / 2 + 1

@@ -19,7 +19,7 @@ use Rattle.fork.proofs.Links.{aligned_links, links_aligned}
 use Rattle.fork.proofs.Rings.{Tied, link_tied, ring_step, ring_close}
 use Rattle.groups.specs.Constraints.{Between, More, Satisfies}
 use Rattle.groups.specs.Groups.{Tables}
-use Rattle.groups.proofs.Groups.{conflict}
+use Rattle.groups.proofs.Grouped.{conflict}
 use Rattle.rings.specs.Ring.{Ring, oddb, ringb}
 use Rattle.choice.specs.Choice.{Drawable, Proper}
 use Rattle.links.specs.Inside.{Closed, Taken, Together, Unkept}

@@ -17,7 +17,7 @@ use Rattle.laws.proofs.Counting.{count_le, count_all, count_same, many_count}
 use Rattle.network.specs.Network.{Network, network}
 use Rattle.network.specs.Numbers.{Untouched, triple}
 use Rattle.network.specs.Inside.{Fit}
-use Rattle.network.specs.declared.Answer.{Answer}
+use Rattle.network.specs.Numbers.{Answer}
 use Rattle.network.proofs.Sifting.{checked_elim}
 use Rattle.tree.specs.Tree.{Tree}
 use Rattle.tree.specs.Returns.{backb}

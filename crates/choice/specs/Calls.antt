@@ -6,7 +6,7 @@ use Rattle.laws.specs.Lists.{at, Kept}
 use Rattle.laws.specs.Dictionary.{First, Next}
 use Rattle.network.specs.Network.{Network, network}
 use Rattle.network.specs.Numbers.{done, Checked, Untouched, triple}
-use Rattle.network.specs.declared.Answer.{Answer}
+use Rattle.network.specs.Numbers.{Answer}
 use Rattle.search.specs.Machine.{tree_in}
 use Rattle.search.specs.Orient.{back_lines}
 use Rattle.fork.specs.Fork.{Constraint}

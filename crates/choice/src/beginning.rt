@@ -1,43 +1,48 @@
 // What first choice, next choice and draw begin with: the search, and the groups of the back lines.
-ghost use Rattle.std.specs.Prelude.{ℕ};
-ghost use Rattle.search.specs.Inside.{search_of, Blank};
-ghost use Rattle.descents.specs.Inside.{Lent};
-ghost use Rattle.choice.specs.Inside.{Begun};
+ghost use Rattle.choice.specs.Inside.{Begins};
 
-use links::Tie;
+use fork::Forks;
+use groups::Groups;
+use links::Tear;
+use network::Refusal;
+use search::Finds;
 
-// The number that the network is refused by; with 0, what came of taking in all links.
 #[derive(Drop)]
 pub struct Beginning {
-    pub number: usize,
-    pub tie: Tie,
+    pub finds: Finds,
+    pub forks: Forks,
+    pub groups: Groups,
+    // What came of taking in all links.
+    pub outcome: Result<(), Tear>,
 }
 
-// Searches the network and groups its back lines, in tables that were lent blank. With a refusal nothing is said of the tables.
-pub fn begin(
-    vertices: usize,
-    ends: &[u16],
-    kinds: &mut [u8; 2048],
-    heights: &mut [u16; 512],
-    parents: &mut [u16; 512],
-    forks: &mut [u16; 10240],
-    groups: &mut [u16; 8192],
-) -> Beginning
-    requires blank { Blank kinds.old heights.old parents.old }
-    requires lent { Lent forks.old groups.old }
-    ensures { Begun vertices ends.now (search_of result.number kinds.new heights.new parents.new)
-        forks.new groups.new result.tie }
+// Searches the network and groups its back lines.
+pub fn begin(vertices: usize, ends: &[u16]) -> Result<Beginning, Refusal>
+    ensures { Begins vertices ends.now result }
 {
-    let number = search::explore(vertices, ends, kinds, heights, parents);
-    if number != 0 {
-        return Beginning {
-            number,
-            tie: Tie::Holds,
-        };
-    }
-    let lines = ends.len() / 2;
-    let tie = descents::group(
-        vertices, lines, ends, kinds, heights, parents, forks, groups,
+    let finds = search::explore(vertices, ends)?;
+    let mut forks = Forks {
+        source: [0; 2048],
+        stop: [0; 2048],
+        low: [0; 2048],
+        high: [0; 2048],
+        top: [0; 2048],
+    };
+    let mut groups = Groups::blank();
+    let outcome = descents::group(
+        vertices,
+        ends.len() / 2,
+        ends,
+        &finds.kinds,
+        &finds.heights,
+        &finds.parents,
+        &mut forks,
+        &mut groups,
     );
-    Beginning { number, tie }
+    Ok(Beginning {
+        finds,
+        forks,
+        groups,
+        outcome,
+    })
 }

@@ -5,115 +5,84 @@
 
 pub mod beginning;
 
-ghost use Rattle.std.specs.Prelude.{ℕ};
-ghost use Rattle.groups.specs.Calls.{Pointing};
+ghost use Rattle.network.specs.Numbers.{answered};
 ghost use Rattle.choice.specs.Calls.{FirstChoice, NextChoice};
-ghost use Rattle.choice.specs.Inside.{Gathered};
 
-use crate::beginning::{Beginning, begin};
-use links::Tie;
-use network::{Answer, Kind};
+use crate::beginning::begin;
+use network::Refusal;
 
-// Writes the first aligned choice, and answers how many back lines there are. Where no choice obeys the fork rule it answers 7 with the length of a
-// ring of constraints that shows why, and writes the ring.
+// Writes the first aligned choice, and answers how many back lines there are. Where no choice obeys the fork rule it writes a ring of constraints that
+// shows why, and refuses with the ring's length.
 pub fn first(
     vertices: usize,
     ends: &[u16],
     choice: &mut [u8],
     ring_lines: &mut [u16],
     ring_kinds: &mut [u8],
-) -> Answer
+) -> Result<usize, Refusal>
     ensures { FirstChoice vertices ends.now choice.old ring_lines.old ring_kinds.old
-        result choice.new ring_lines.new ring_kinds.new }
+        (answered result) choice.new ring_lines.new ring_kinds.new }
 {
     let lines = ends.len() / 2;
     if network::is_oversize(vertices, ends.len()) {
-        return Answer::refused(2);
+        return Err(Refusal::Oversize);
     }
     if network::is_odd(ends.len()) {
-        return Answer::refused(3);
+        return Err(Refusal::Cramped);
     }
     if choice.len() < lines {
-        return Answer::refused(3);
+        return Err(Refusal::Cramped);
     }
     if ring_lines.len() < lines {
-        return Answer::refused(3);
+        return Err(Refusal::Cramped);
     }
     if ring_kinds.len() < lines {
-        return Answer::refused(3);
+        return Err(Refusal::Cramped);
     }
-    let mut groups = [0u16; 8192];
-    let start = group_alone(vertices, ends, &mut groups);
-    let number = start.number;
-    if number != 0 {
-        return Answer::refused(number);
-    }
-    let tie = start.tie;
-    match tie {
-        Tie::Holds => {
-            groups::choice::first(lines, &groups, choice);
-            Answer::done(lines + 1 - vertices, 0)
+    let beginning = begin(vertices, ends)?;
+    match beginning.outcome {
+        Ok(()) => {
+            beginning.groups.first(lines, choice);
+            Ok(lines + 1 - vertices)
         }
-        Tie::Tears(b, d, kind) => {
-            let size = rings::show(lines, &groups, b, d, kind, ring_lines, ring_kinds);
-            Answer {
-                number: 7,
-                count: 0,
-                second: size,
-            }
+        Err(tear) => {
+            let size = rings::show(
+                lines,
+                &beginning.groups,
+                tear.one,
+                tear.two,
+                tear.wants,
+                ring_lines,
+                ring_kinds,
+            );
+            Err(Refusal::Ringed(size))
         }
     }
 }
 
 // Puts the next aligned choice in the place of the lent one, and answers how many back lines there are.
-pub fn next(vertices: usize, ends: &[u16], choice: &mut [u8]) -> Answer
-    ensures { NextChoice vertices ends.now choice.old result choice.new }
+pub fn next(vertices: usize, ends: &[u16], choice: &mut [u8]) -> Result<usize, Refusal>
+    ensures { NextChoice vertices ends.now choice.old (answered result) choice.new }
 {
     let lines = ends.len() / 2;
     if network::is_oversize(vertices, ends.len()) {
-        return Answer::refused(2);
+        return Err(Refusal::Oversize);
     }
     if network::is_odd(ends.len()) {
-        return Answer::refused(3);
+        return Err(Refusal::Cramped);
     }
     if choice.len() < lines {
-        return Answer::refused(3);
+        return Err(Refusal::Cramped);
     }
-    let mut groups = [0u16; 8192];
-    let start = group_alone(vertices, ends, &mut groups);
-    let number = start.number;
-    if number != 0 {
-        return Answer::refused(number);
+    let beginning = begin(vertices, ends)?;
+    if beginning.outcome.is_err() {
+        return Err(Refusal::Unaligned);
     }
-    let tie = start.tie;
-    if let Tie::Tears(_, _, _) = tie {
-        return Answer::refused(8);
+    if !beginning.groups.fits(lines, choice) {
+        return Err(Refusal::Unaligned);
     }
-    if !groups::choice::fits(lines, &groups, choice) {
-        return Answer::refused(8);
+    if !beginning.groups.next(lines, choice) {
+        return Err(Refusal::Last);
     }
-    if !groups::choice::next(lines, &groups, choice) {
-        return Answer::refused(9);
-    }
-    Answer::done(lines + 1 - vertices, 0)
-}
-
-// Groups the back lines, and keeps the other tables to itself.
-fn group_alone(vertices: usize, ends: &[u16], groups: &mut [u16; 8192]) -> Beginning
-    requires { Pointing groups.old }
-    ensures { Gathered vertices ends.now result.number groups.new result.tie }
-{
-    let mut kinds = [Kind::UNUSED; 2048];
-    let mut heights = [0u16; 512];
-    let mut parents = [0u16; 512];
-    let mut forks = [0u16; 10240];
-    begin(
-        vertices,
-        ends,
-        &mut kinds,
-        &mut heights,
-        &mut parents,
-        &mut forks,
-        groups,
-    )
+    Ok(lines + 1 - vertices)
 }

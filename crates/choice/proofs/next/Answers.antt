@@ -1,43 +1,45 @@
 -- One lemma for each place where `next` returns.
 use native.Mathlib.Omega.{arith}
-use Rattle.groups.proofs.Answers.{fresh_pointing}
-use Rattle.choice.proofs.Faultless.{faultless_fits}
-use Rattle.choice.proofs.Answering.{gathered_reading}
-use Rattle.choice.proofs.Stepping.{next_2, next_odd, next_few_bytes, next_refused, next_torn, next_unfit, next_last, next_done}
+use Rattle.laws.proofs.Passing.{passed_on}
+use Rattle.choice.proofs.Faultless.{begun_gathered, faultless_fits}
+use Rattle.choice.proofs.Answering.{kept_of, gathered_reading}
+use Rattle.choice.proofs.Stepping.{next_odd, next_few_bytes, next_refused, next_torn, next_unfit, next_last, next_done}
 use Rattle.choice.proofs.next.Goals as goal
 
-pub returns-then-is_oversize : goal.returns-then-is_oversize
-returns-then-is_oversize c = next_2 _ _ _ _ c.is_oversize.ensures c.if-is_oversize.true _ c.refused.ensures
-
 pub returns-then-is_odd : goal.returns-then-is_odd
-returns-then-is_odd c = next_odd _ _ _ _ c.is_oversize.ensures c.if-is_oversize.false _ c.is_odd.ensures c.if-is_odd.true _ c.refused-then-is_odd.ensures
+returns-then-is_odd c = next_odd _ _ _ c.if-is_oversize.ensures c.if-is_odd.ensures
 
 pub returns-then-choice-lines : goal.returns-then-choice-lines
-returns-then-choice-lines c = next_few_bytes _ _ _ _ c.is_oversize.ensures c.if-is_oversize.false _ c.is_odd.ensures c.if-choice-lines.true _ c.refused-then-choice-lines.ensures
+returns-then-choice-lines c = next_few_bytes _ _ _ c.if-is_oversize.ensures c.if-choice-lines.true
 
-pub group_alone-start-requires : goal.group_alone-start-requires
-group_alone-start-requires c = fresh_pointing
+pub returns-in_err-beginning : goal.returns-in_err-beginning
+returns-in_err-beginning c =
+    rw (passed_on c.from_residual.result c.from_residual.ensures.1)
+    (next_refused _ _ _ c.if-is_odd.ensures c.if-choice-lines.false _ c.in_err-beginning.ensures)
 
-pub returns-then-number-ne0 : goal.returns-then-number-ne0
-returns-then-number-ne0 c = next_refused _ _ _ _ c.is_oversize.ensures c.if-is_oversize.false _ c.is_odd.ensures c.if-is_odd.false c.if-choice-lines.false _ _ _ c.group_alone-start.ensures c.if-number-ne0.true _ c.refused-then-number-ne0.ensures
-
-pub returns-in-Tears : goal.returns-in-Tears
-returns-in-Tears c = next_torn _ _ _ _ c.is_oversize.ensures c.if-is_oversize.false _ c.is_odd.ensures c.if-is_odd.false c.if-choice-lines.false _ _ _ c.group_alone-start.ensures c.if-number-ne0.false c.in-Tears.is _ c.refused-in-Tears.ensures
+pub returns-then-is_err : goal.returns-then-is_err
+returns-then-is_err c = next_torn _ _ _ c.if-is_odd.ensures c.if-choice-lines.false (begun_gathered c.in_ok-beginning.ensures) c.if-is_err.ensures.value
 
 pub fits-requires : goal.fits-requires
-fits-requires c = gathered_reading _ _ _ _ _ c.group_alone-start.ensures c.if-number-ne0.false c.in_default.is _ c.if-choice-lines.false
+fits-requires c = gathered_reading (begun_gathered c.in_ok-beginning.ensures) (kept_of c.if-is_err.ensures.value) _ c.if-choice-lines.false
 
 pub returns-then-not-fits : goal.returns-then-not-fits
-returns-then-not-fits c = next_unfit _ _ _ _ c.is_oversize.ensures c.if-is_oversize.false _ c.is_odd.ensures c.if-is_odd.false c.if-choice-lines.false _ _ _ c.group_alone-start.ensures c.if-number-ne0.false c.in_default.is _ c.fits.ensures c.if-not-fits.true _ c.refused-then-not-fits.ensures
+returns-then-not-fits c =
+    next_unfit _ _ _ c.if-is_odd.ensures c.if-choice-lines.false (begun_gathered c.in_ok-beginning.ensures) c.if-is_err.ensures.value
+    c.fits.ensures c.if-not-fits.true
 
 pub next-requires : goal.next-requires
-next-requires c = gathered_reading _ _ _ _ _ c.group_alone-start.ensures c.if-number-ne0.false c.in_default.is _ c.if-choice-lines.false
+next-requires c = gathered_reading (begun_gathered c.in_ok-beginning.ensures) (kept_of c.if-is_err.ensures.value) _ c.if-choice-lines.false
 
 pub returns-then-not-next : goal.returns-then-not-next
-returns-then-not-next c = next_last _ _ _ _ c.is_oversize.ensures c.if-is_oversize.false _ c.is_odd.ensures c.if-is_odd.false c.if-choice-lines.false _ _ _ c.group_alone-start.ensures c.if-number-ne0.false c.in_default.is _ c.fits.ensures c.if-not-fits.false _ c.next.result c.next.ensures c.if-not-next.true _ c.refused-then-not-next.ensures
+returns-then-not-next c =
+    next_last _ _ _ c.if-is_odd.ensures c.if-choice-lines.false (begun_gathered c.in_ok-beginning.ensures) c.if-is_err.ensures.value
+    c.fits.ensures c.if-not-fits.false (rw c.if-not-next.true at c.next.ensures)
 
-pub overflow_sub-lines : goal.overflow_sub-lines
-overflow_sub-lines c = faultless_fits _ _ _ c.group_alone-start.ensures.fault c.if-number-ne0.false
+pub overflow_sub-result : goal.overflow_sub-result
+overflow_sub-result c = faultless_fits (begun_gathered c.in_ok-beginning.ensures).fault
 
 pub returns : goal.returns
-returns c = next_done _ _ _ _ c.is_oversize.ensures c.if-is_oversize.false _ c.is_odd.ensures c.if-is_odd.false c.if-choice-lines.false _ _ _ c.group_alone-start.ensures c.if-number-ne0.false c.in_default.is _ c.fits.ensures c.if-not-fits.false _ c.next.result c.next.ensures c.if-not-next.false _ c.done.ensures (omega arith)
+returns c =
+    next_done _ _ _ c.if-is_odd.ensures c.if-choice-lines.false (begun_gathered c.in_ok-beginning.ensures) c.if-is_err.ensures.value
+    c.fits.ensures c.if-not-fits.false (rw c.if-not-next.false at c.next.ensures) (omega arith)
