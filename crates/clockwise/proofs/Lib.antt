@@ -5,7 +5,6 @@ pub mod Flat
 pub mod Wholes
 pub mod Stems
 pub mod Raising
-pub mod Collecting
 pub mod Walking
 pub mod Finding
 pub mod Rising

@@ -23,9 +23,10 @@ use Rattle.tree.specs.Tree.{Tree}
 use Rattle.tree.specs.Words.{BackLine, Leaves}
 use Rattle.tree.specs.Searched.{Searched}
 use Rattle.fans.specs.Fan.{is_left, is_right, fan}
-use Rattle.fans.specs.Chains.{list_in, ListsChained}
-use Rattle.fans.specs.Fanning.{Fannable}
-use Rattle.fans.proofs.Hanging.{chained_list, chained_as, chained_none}
+use Rattle.fork.specs.declared.Forks.{Forks}
+use Rattle.fans.specs.declared.chains.Chains.{Chains}
+use Rattle.fans.specs.Chains.{list_in, ListsChained, no_lists}
+use Rattle.fans.proofs.Hanging.{chained_list, chained_as}
 use Rattle.clockwise.specs.Order.{discovered, incoming, beside, clockwise, order_at}
 use Rattle.clockwise.specs.Walks.{Fanned, Over, Rooted, Uppers, stem_of, group_of, groups_of, SettingOut, WalkedBack}
 use Rattle.clockwise.specs.Laying.{item_in, Upper, first_in, lines_at, Layable, LaidOut}
@@ -36,10 +37,7 @@ use Rattle.clockwise.proofs.Stems.{comes_from}
 use Rattle.clockwise.proofs.Wholes.{order_full}
 use Rattle.clockwise.proofs.Raising.{rooted_high}
 
-module _ {S : Tree} {n m : ℕ} {parents forks choice : List ℕ} (P : Orderable S n m parents forks choice) where
-  pub order_fannable : Fannable S n m forks choice
-  order_fannable = record { same_vertices = P.same_vertices; same_lines = P.same_lines; finished = P.finished; tabled = P.tabled; choice_long = P.choice_long }
-
+module _ {S : Tree} {n m : ℕ} {parents : List ℕ} {forks : Forks} {choice : List ℕ} (P : Orderable S n m parents forks choice) where
   pub order_rooted : Rooted S n parents
   order_rooted =
       record {
@@ -70,9 +68,9 @@ module _ {S : Tree} {n m : ℕ} {parents forks choice : List ℕ} (P : Orderable
   abbrev all_found : List ℕ
   all_found = discovered S (fan S (at choice)) S.vertices 0
 
-  module _ {fans : List ℕ} (C : ListsChained fans (fan S (at choice))) {uppers : List ℕ} (U : Uppers S uppers) where
-    pub order_sets_out : SettingOut S [] 0 0 forks uppers choice fans (replicate 512 0) (replicate 3072 absent)
-    order_sets_out =
+  module _ {fans : Chains} (C : ListsChained fans (fan S (at choice))) {uppers : List ℕ} (U : Uppers S uppers) where
+    pub order_sets_out : {groups : Chains} → ListsChained groups no_lists → SettingOut S [] 0 0 forks uppers choice fans (replicate 512 0) groups
+    order_sets_out {groups} blank =
         record {
           finished = P.finished;
           spans = P.tabled.spans;
@@ -85,13 +83,10 @@ module _ {S : Tree} {n m : ℕ} {parents forks choice : List ℕ} (P : Orderable
           path_long = length-replicate {A = ℕ} 512 0;
           path_known = λ j h. absurd (omega arith);
           fresh = λ b o. many_nil b;
-          grouped = chained_none (replicate 3072 absent) refl_blank (groups_of S side []) (λ g h. ap reverse (keep_nil (λ b. eqb (group_of S side b) g)));
+          grouped = chained_as groups no_lists blank (groups_of S side []) (λ g h. sym (ap reverse (keep_nil (λ b. eqb (group_of S side b) g))));
         }
-      where
-        refl_blank : replicate {A = ℕ} 3072 absent ≡ replicate 3072 absent
-        refl_blank = refl
 
-    module _ {path₀ path groups : List ℕ} (W : WalkedBack S [] 0 0 choice path₀ path groups) where
+    module _ {path₀ path : List ℕ} {groups : Chains} (W : WalkedBack S [] 0 0 choice path₀ path groups) where
       -- a group, by the side and the stem
       group_is : (s w : ℕ) (p : ℕ → Bool) → s ≤ 1 → w < S.vertices → ((b : ℕ) → BackLine S b → eqb (get_or choice b 0) s ≡ p b)
           → list_in groups (2 * w + s) ≡ reverse (keep p (keep (λ b. eqb (stem_of S b) w) (discovered S (fan S (at choice)) S.vertices 0)))

@@ -11,12 +11,10 @@ use Rattle.network.specs.Marks.{absent}
 use Rattle.tree.specs.Tree.{Tree}
 use Rattle.tree.specs.Words.{TreeLine}
 use Rattle.tree.specs.Searched.{Searched}
-use Rattle.clockwise.specs.Walks.{Rooted, Uppers}
+use Rattle.clockwise.specs.Walks.{Rooted}
 
 -- the lines that lead up to vertices below v are done
 pub record Raising (S : Tree) (uppers : List ℕ) (v : ℕ) : Type 0 where
-  pub some : 0 < v
-  pub upto : v ≤ S.vertices
   pub long : length uppers ≡ 2048
   pub trees : (f : ℕ) → TreeLine S f → S.target f < v → get_or uppers f 0 ≡ S.target f
   pub others : (k : ℕ) → k < 2048 → (TreeLine S k → ⊥) → get_or uppers k 0 ≡ absent
@@ -32,53 +30,41 @@ module _ {S : Tree} {n : ℕ} {parents : List ℕ} (R : Rooted S n parents) wher
       (λ e. absurd (d (sym (X.above_level 0 v v (R.rooted v h) (X.above_self v) (R.root_low ∙ sym e)))))
       (λ e. let e' : S.height v ≢ 0 = e in omega arith)
 
-  pub raising_start : {uppers : List ℕ} → uppers ≡ replicate 2048 absent → Raising S uppers 1
-  raising_start {uppers} blank =
+  pub raising_start : Raising S (replicate 2048 absent) 1
+  raising_start =
       record {
-        some = omega arith;
-        upto = omega (arith, R.same_vertices, R.some_vertex);
-        long = ap length blank ∙ length-replicate {A = ℕ} 2048 65535;
+        long = length-replicate {A = ℕ} 2048 65535;
         trees = λ f l h.
             let e : S.target f ≡ 0 = omega arith in
             let low : S.height (S.target f) ≡ 0 = ap S.height e ∙ R.root_low in
             absurd (omega (arith, X.rise f l));
-        others = λ k h d. ap (λ (t : List ℕ). get_or t k 0) blank ∙ get_or-replicate {A = ℕ} 2048 k 65535 0 h;
+        others = λ k h d. get_or-replicate {A = ℕ} 2048 k 65535 0 h;
       }
 
-  pub raising_vertex : {v : ℕ} → v < n → v < 512
-  raising_vertex h = omega (arith, R.same_vertices, R.finished.few_vertices)
-
   module _ {uppers : List ℕ} {v : ℕ} (G : Raising S uppers v) where
-    pub raising_done : n ≤ v → Uppers S uppers
-    raising_done h =
-        record {
-          long = G.long;
-          trees = λ f l. G.trees f l (omega (arith, X.target_in f l.0, R.same_vertices));
-          others = G.others;
-        }
+    module _ (some : 1 ≤ v) (h : v < n) where
+      abbrev f : ℕ
+      f = get_or parents v 0
 
-    module _ (h : v < n) {f : ℕ} (is_f : (f ≡ get_or parents v 0) × (f < 65536)) where
       v_in : v < S.vertices
       v_in = omega (arith, R.same_vertices)
 
       led : TreeLine S (S.parent v) × (S.target (S.parent v) ≡ v)
-      led = X.parent v v_in (rooted_high v h (λ e. omega (arith, G.some)))
+      led = X.parent v v_in (rooted_high v h (λ e. omega arith))
 
       f_is : f ≡ S.parent v
-      f_is = is_f.0 ∙ R.leads.each v v_in
+      f_is = R.leads.each v v_in
 
       f_line : TreeLine S f
       f_line = subst (λ (x : ℕ). TreeLine S x) (sym f_is) led.0
 
-      pub raising_line : f < 2048
+      pub raising_line : get_or parents v 0 < 2048
       raising_line = omega (arith, f_line.0.below, R.finished.few_lines)
 
-      pub raising_more : Raising S (set uppers f v) (v + 1)
+      pub raising_more : Raising S (set uppers (get_or parents v 0) v) (v + 1)
       raising_more =
           let to_v : S.target f ≡ v = ap S.target f_is ∙ led.1 in
           record {
-            some = omega arith;
-            upto = omega (arith, R.same_vertices);
             long = length-set uppers f v ∙ G.long;
             trees = λ g l k.
                 cases (eq_or g f)

@@ -4,10 +4,12 @@ use Rattle.laws.specs.Lists.{upto}
 use Rattle.laws.specs.Sorting.{gather}
 use Rattle.side.specs.Sides.{left, right}
 use Rattle.network.specs.Marks.{absent}
+use Rattle.fans.specs.declared.chains.Chains.{Chains}
+use Rattle.fans.specs.declared.rows.Row.{Row}
 use Rattle.fans.specs.Chains.{list_in, ListsChained}
 
 -- A line with its company: beside a tree line stand the two groups of the vertex above it.
-abbrev pub item_in : List ℕ → List ℕ → ℕ → List ℕ
+abbrev pub item_in : List ℕ → Chains → ℕ → List ℕ
 item_in uppers groups e =
     cond (eqb (get_or uppers e 0) absent) (e ∷ []) (list_in groups (2 * get_or uppers e 0 + left) ++ (e ∷ list_in groups (2 * get_or uppers e 0 + right)))
 
@@ -15,39 +17,39 @@ item_in uppers groups e =
 abbrev pub Upper : List ℕ → ℕ → Type 0
 Upper uppers e = (get_or uppers e 0 ≡ absent → ⊥) → get_or uppers e 0 < 512
 
-pub record Besides (e at : ℕ) (uppers groups order : List ℕ) : Type 0 where
+pub record Besides (e : ℕ) (uppers : List ℕ) (groups : Chains) (order : Row) : Type 0 where
   pub line_in : e < 2048
   pub upper : Upper uppers e
   pub grouped : ListsChained groups (list_in groups)
-  pub room : at + length (item_in uppers groups e) ≤ 4096
-  pub order_long : length order ≡ 4096
+  pub room : order.count + length (item_in uppers groups e) ≤ 4096
+  pub order_long : length order.lines ≡ 4096
 
 -- The lines of a fan, each with its groups.
-abbrev pub spread_in : List ℕ → List ℕ → List ℕ → ℕ → List ℕ
+abbrev pub spread_in : List ℕ → Chains → Chains → ℕ → List ℕ
 spread_in uppers fans groups v = gather (item_in uppers groups) (list_in fans v)
 
-pub record Spreads (v at : ℕ) (uppers fans groups order : List ℕ) : Type 0 where
+pub record Spreads (v : ℕ) (uppers : List ℕ) (fans groups : Chains) (order : Row) : Type 0 where
   pub vertex_in : v < 512
   pub upper : (e : ℕ) → e < 2048 → Upper uppers e
   pub fanned : ListsChained fans (list_in fans)
   pub grouped : ListsChained groups (list_in groups)
-  pub room : at + length (spread_in uppers fans groups v) ≤ 4096
-  pub order_long : length order ≡ 4096
+  pub room : order.count + length (spread_in uppers fans groups v) ≤ 4096
+  pub order_long : length order.lines ≡ 4096
 
 -- The line from the parent. (The root is vertex 0.)
 abbrev pub first_in : List ℕ → ℕ → List ℕ
 first_in parents v = cond (eqb v 0) [] (get_or parents v 0 ∷ [])
 
-pub record Begins (v at : ℕ) (parents order : List ℕ) : Type 0 where
+pub record Begins (v : ℕ) (parents : List ℕ) (order : Row) : Type 0 where
   pub vertex_in : v < 512
-  pub room : at + length (first_in parents v) ≤ 4096
-  pub order_long : length order ≡ 4096
+  pub room : order.count + length (first_in parents v) ≤ 4096
+  pub order_long : length order.lines ≡ 4096
 
 -- All lines at v.
-abbrev pub lines_at : List ℕ → List ℕ → List ℕ → List ℕ → ℕ → List ℕ
+abbrev pub lines_at : List ℕ → List ℕ → Chains → Chains → ℕ → List ℕ
 lines_at parents uppers fans groups v = first_in parents v ++ spread_in uppers fans groups v
 
-pub record Layable (n : ℕ) (parents uppers fans groups : List ℕ) : Type 0 where
+pub record Layable (n : ℕ) (parents uppers : List ℕ) (fans groups : Chains) : Type 0 where
   pub few : n ≤ 512
   pub upper : (e : ℕ) → e < 2048 → Upper uppers e
   pub fanned : ListsChained fans (list_in fans)

@@ -9,7 +9,9 @@ use Rattle.tree.specs.Tree.{Tree}
 use Rattle.tree.specs.Returns.{end}
 use Rattle.tree.specs.Words.{TreeLine, BackLine, Above, Leaves}
 use Rattle.fork.specs.Inside.{Finished, Parents, Spans}
+use Rattle.fork.specs.declared.Forks.{Forks}
 use Rattle.fans.specs.Fan.{fan}
+use Rattle.fans.specs.declared.chains.Chains.{Chains}
 use Rattle.fans.specs.Chains.{ListsChained}
 use Rattle.clockwise.specs.Order.{discovered}
 
@@ -58,11 +60,11 @@ abbrev pub groups_of : Tree → (ℕ → ℕ) → List ℕ → ℕ → List ℕ
 groups_of S side found g = reverse (keep (λ b. eqb (group_of S side b) g) found)
 
 -- Line e has a place in the tables by which it finds its group.
-pub record Collectable (e : ℕ) (forks choice path : List ℕ) : Type 0 where
+pub record Collectable (e : ℕ) (forks : Forks) (choice path : List ℕ) : Type 0 where
   pub line_in : e < 2048
   pub in_choice : e < length choice
-  pub stop_in : get_or forks (2048 + e) 0 < 512
-  pub stem_in : get_or path (get_or forks (2048 + e) 0) 0 < 512
+  pub stop_in : at forks.stop e < 512
+  pub stem_in : get_or path (at forks.stop e) 0 < 512
   pub side_in : get_or choice e 0 ≤ 1
 
 -- A contract of the walk speaks of a tree and of the lines found so far, which no parameter holds.
@@ -82,7 +84,7 @@ pub record OnPath (S : Tree) (v j u : ℕ) : Type 0 where
 
 -- The walk may go up from v, at height h: the fans are there, the vertices on the path to v are known, each by the height below it, and what was found is
 -- in its group; no line that starts above v is among that.
-pub record SettingOut (S : Tree) (found : List ℕ) (v h : ℕ) (forks uppers choice fans path groups : List ℕ) : Type 0 where
+pub record SettingOut (S : Tree) (found : List ℕ) (v h : ℕ) (forks : Forks) (uppers choice : List ℕ) (fans : Chains) (path : List ℕ) (groups : Chains) : Type 0 where
   pub finished : Finished S
   pub spans : Spans S forks
   pub raised : Uppers S uppers
@@ -97,7 +99,7 @@ pub record SettingOut (S : Tree) (found : List ℕ) (v h : ℕ) (forks uppers ch
   pub grouped : ListsChained groups (groups_of S (at choice) found)
 
 -- The walk is back at v: what it discovered is in its group too, and the path to v is as it was.
-pub record WalkedBack (S : Tree) (found : List ℕ) (v h : ℕ) (choice path path' groups' : List ℕ) : Type 0 where
+pub record WalkedBack (S : Tree) (found : List ℕ) (v h : ℕ) (choice path path' : List ℕ) (groups' : Chains) : Type 0 where
   pub path_long : length path' ≡ 512
   pub path_kept : (j : ℕ) → j < h → get_or path' j 0 ≡ get_or path j 0
   pub grouped : ListsChained groups' (groups_of S (at choice) (found ++ discovered S (fan S (at choice)) S.vertices v))

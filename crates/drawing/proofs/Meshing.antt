@@ -28,6 +28,7 @@ use Rattle.meshes.proofs.Turning.{turn}
 use Rattle.clockwise.specs.Order.{order_at, flat}
 use Rattle.clockwise.specs.Laying.{LaidOut}
 use Rattle.clockwise.proofs.Flat.{flat_next, flat_rises, flat_full}
+use Rattle.fork.specs.declared.Forks.{Forks}
 use Rattle.drawing.specs.Drawing.{Sketchable, Drawn}
 
 -- a list by its places
@@ -179,7 +180,7 @@ module _ {n m : ℕ} {ends : List ℕ} (fit : Fit (network_of n m ends)) {live :
 
 -- The whole drawing
 
-module _ {S : Tree} {n : ℕ} {ends parents forks choice : List ℕ} (P : Sketchable S n ends parents forks choice) where
+module _ {S : Tree} {n : ℕ} {ends parents : List ℕ} {forks : Forks} {choice : List ℕ} (P : Sketchable S n ends parents forks choice) where
   abbrev m : ℕ
   m = length ends / 2
 

@@ -5,7 +5,7 @@ use Prim.Native.Nat.{ℕ, ◌/◌}
 use lib.ListN.{length}
 use Rattle.laws.proofs.Checks.{check_once}
 use Rattle.network.specs.Network.{network}
-use Rattle.network.specs.declared.Answer.{Answer}
+use Rattle.network.specs.Numbers.{Answer}
 use Rattle.network.proofs.Sifting.{checked_once, three_untouched_once}
 use Rattle.drawing.specs.Draw.{cramped_draw, Drew, Draw}
 

@@ -14,7 +14,7 @@ use Rattle.laws.proofs.Lengths.{length_from}
 use Rattle.laws.proofs.Orbits.{In}
 use Rattle.network.specs.Network.{Network, network, Connected}
 use Rattle.network.specs.Inside.{Fit}
-use Rattle.network.specs.declared.Answer.{Answer}
+use Rattle.network.specs.Numbers.{Answer}
 use Rattle.network.specs.Numbers.{Untouched, triple}
 use Rattle.network.proofs.Sifting.{checked_elim}
 use Rattle.search.specs.Machine.{finished, tree_in}

@@ -5,7 +5,7 @@ use Rattle.laws.specs.Checks.{Check}
 use Rattle.laws.specs.Lists.{filled, at}
 use Rattle.network.specs.Network.{Network, network}
 use Rattle.network.specs.Numbers.{done, Checked, Untouched, triple}
-use Rattle.network.specs.declared.Answer.{Answer}
+use Rattle.network.specs.Numbers.{Answer}
 use Rattle.search.specs.Machine.{tree_in}
 use Rattle.choice.specs.Choice.{Proper}
 use Rattle.meshes.specs.Meshes.{mesh_count, mesh_list, size_list}

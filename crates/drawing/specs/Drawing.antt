@@ -1,10 +1,10 @@
 -- The whole drawing, from the tables of a finished search. (What functions inside ask of each other.)
-use Rattle.std.specs.Prelude.{false, List, ◌≡◌, ℕ, ◌+◌, ◌*◌, ◌/◌, ◌≤◌, length, take, replicate}
+use Rattle.std.specs.Prelude.{Result, Ok, Err, [], false, List, ◌≡◌, ℕ, ◌+◌, ◌*◌, ◌/◌, ◌≤◌, length, take}
 use Rattle.laws.specs.Checks.{Check}
 use Rattle.laws.specs.Lists.{at}
-use Rattle.network.specs.Marks.{absent}
 use Rattle.network.specs.Network.{network}
-use Rattle.network.specs.Numbers.{Checked}
+use Rattle.network.specs.Numbers.{Checked, refusal_number}
+use Rattle.network.specs.declared.Refusal.{Refusal}
 use Rattle.network.specs.Inside.{Fit}
 use Rattle.tree.specs.Tree.{Tree}
 use Rattle.search.specs.Machine.{tree_in}
@@ -13,19 +13,15 @@ use Rattle.meshes.specs.Meshes.{mesh_count, mesh_list, size_list}
 use Rattle.meshes.specs.Inside.{Whole}
 use Rattle.clockwise.specs.Order.{order_at, flat}
 use Rattle.clockwise.specs.Ordering.{Orderable}
+use Rattle.fork.specs.declared.Forks.{Forks}
+use Rattle.drawing.specs.declared.sketches.Drawing.{Drawing}
 use Rattle.drawing.specs.Draw.{Balanced}
 
 -- The tree S of a network, and a choice of sides for its back lines.
-pub record Sketchable (S : Tree) (n : ℕ) (ends parents forks choice : List ℕ) : Type 0 where
+pub record Sketchable (S : Tree) (n : ℕ) (ends parents : List ℕ) (forks : Forks) (choice : List ℕ) : Type 0 where
   pub orderable : Orderable S n (length ends / 2) parents forks choice
   pub fits : Fit (network n ends)
   pub whole : Whole (network n ends) S.live (order_at S (at choice))
-
--- The tables as they are lent.
-pub record Unwritten (order mesh sizes : List ℕ) : Type 0 where
-  pub order_long : length order ≡ 4096
-  pub no_mesh : mesh ≡ replicate 4096 absent
-  pub no_size : sizes ≡ replicate 4097 0
 
 -- The flat order, how many meshes there are, the mesh of each direction, and the size of each mesh.
 pub record Drawn (S : Tree) (n : ℕ) (ends choice order : List ℕ) (count : ℕ) (mesh sizes : List ℕ) : Type 0 where
@@ -45,3 +41,8 @@ Sketched n ends choice number count order mesh sizes =
     (Check (Proper (tree_in (network n ends)) (at choice))
     (Check (Balanced (network n ends) choice) ((number ≡ 0) × Drawn (tree_in (network n ends)) n ends choice order count mesh sizes) (number ≡ 10))
     (number ≡ 8))
+
+-- .. as a result tells of it.
+abbrev pub Sketches : ℕ → List ℕ → List ℕ → Result Drawing Refusal → Type 0
+Sketches n ends choice (Ok s) = Sketched n ends choice 0 s.count s.order s.mesh s.sizes
+Sketches n ends choice (Err r) = Sketched n ends choice (refusal_number r) 0 [] [] []

@@ -1,6 +1,5 @@
 pub mod Hanging
 pub mod Bucketing
 pub mod Fanning
-pub mod Tabulating
 pub mod Nesting
 pub mod Ranking

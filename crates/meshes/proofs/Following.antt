@@ -59,11 +59,11 @@ module _ (n d c : ℕ) (nexts : List ℕ) (N : Numberable n nexts) where
     following_less e =
         omega (arith, many_take_set absent c n mesh x (omega (arith, G.mesh_long, N.few)) G.here_in e (λ q. omega (arith, G.small)))
 
-    pub following_more : get_or mesh x 0 ≡ absent → (w : ℕ) → (w ≡ get_or nexts x 0) × (w < 65536) → Following n d c nexts (set mesh x c) w
-    following_more e w is_w =
+    pub following_more : get_or mesh x 0 ≡ absent → Following n d c nexts (set mesh x c) (get_or nexts x 0)
+    following_more e =
         let k = G.steps in
         let in_d = in_all d F.start_in in
-        let onward : walk f (suc k) d ≡ w = walk_end f k d ∙ ap f G.here ∙ sym is_w.0 in
+        let onward : walk f (suc k) d ≡ f x = walk_end f k d ∙ ap f G.here in
         record {
           mesh_long = length-set mesh x c ∙ G.mesh_long;
           here_in = subst (λ (y : ℕ). y < n) onward (walk_stays n every f N.turn (suc k) d in_d).below;
@@ -92,7 +92,6 @@ module _ (n d c : ℕ) (nexts : List ℕ) (N : Numberable n nexts) where
 -- the walks with a lowest direction below d have their numbers
 pub record Marking (n : ℕ) (nexts mesh : List ℕ) (c d : ℕ) : Type 0 where
   pub mesh_long : length mesh ≡ 4096
-  pub upto : d ≤ n
   pub few : c ≤ d
   pub done : Done n every (at nexts) absent d c (at mesh)
 
@@ -102,7 +101,6 @@ module _ (n : ℕ) (nexts : List ℕ) (N : Numberable n nexts) where
       rw e
       (record {
         mesh_long = length-replicate {A = ℕ} 4096 65535;
-        upto = omega arith;
         few = omega arith;
         done = start n every (at nexts) absent N.turn (big n 0 0 nexts N) (at (replicate {A = ℕ} 4096 65535))
             (λ x h. get_or-replicate {A = ℕ} 4096 x 65535 0 (omega (arith, N.few, h.below)));
@@ -110,24 +108,23 @@ module _ (n : ℕ) (nexts : List ℕ) (N : Numberable n nexts) where
 
   module _ (mesh : List ℕ) (c d : ℕ) (M : Marking n nexts mesh c d) (h : d < n) where
     pub marking_more : (after : List ℕ) → Followed n d c nexts after → Marking n nexts after (c + 1) (d + 1)
-    marking_more after F = record { mesh_long = F.mesh_long; upto = omega arith; few = omega (arith, M.few); done = F.done }
+    marking_more after F = record { mesh_long = F.mesh_long; few = omega (arith, M.few); done = F.done }
 
     pub marking_pass : (get_or mesh d 0 ≡ absent → ⊥) → Marking n nexts mesh c (d + 1)
     marking_pass e =
         record {
           mesh_long = M.mesh_long;
-          upto = omega arith;
           few = omega (arith, M.few);
           done = rw (add-one d) (pass n every (at nexts) absent N.turn (big n 0 0 nexts N) M.done h (inr e));
         }
 
-  pub marking_done : (mesh : List ℕ) (c d : ℕ) → Marking n nexts mesh c d → n ≤ d → Numbered n nexts c mesh
-  marking_done mesh c d M h =
-      let e : d ≡ n = omega (arith, M.upto) in
+  pub marking_done : (mesh : List ℕ) (c d : ℕ) → Marking n nexts mesh c d → d ≤ n → n ≤ d → Numbered n nexts c mesh
+  marking_done mesh c d M g h =
+      let e : d ≡ n = omega arith in
       let D : Done n every (at nexts) absent n c (at mesh) = rw e at M.done in
       record {
         mesh_long = M.mesh_long;
         counted = D.counted;
         few = omega (arith, M.few);
-        given = λ x g. D.given x (in_all n 0 0 nexts N x g) (omega (arith, lowest_under n every (at nexts) N.turn x));
+        given = λ x l. D.given x (in_all n 0 0 nexts N x l) (omega (arith, lowest_under n every (at nexts) N.turn x));
       }

@@ -4,4 +4,3 @@ pub mod Mesh
 pub mod Following
 pub mod Sizing
 pub mod Links
-pub mod Linkable

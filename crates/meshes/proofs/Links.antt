@@ -2,8 +2,7 @@
 use mathlib.Core.List.{List}
 use mathlib.Core.Logic.{◌≢◌}
 use mathlib.Core.Path.{◌≡◌, refl, sym, ◌∙◌, ap, subst}
-use Prim.Native.Nat.{ℕ, ◌+◌, ◌-◌, ◌*◌, ◌/◌, ◌%◌, ◌≤◌, ◌<◌}
-use native.Mathlib.Numerals.{add-one}
+use Prim.Native.Nat.{ℕ, ◌+◌, ◌-◌, ◌*◌, ◌/◌, ◌≤◌, ◌<◌}
 use native.Mathlib.Omega.{arith}
 use lib.ListN.{length, get_or, set, length-set}
 use lib.Seq.{get_or-set_same, get_or-set_other, get_or-drop, get_or-take, length-slice}
@@ -14,10 +13,21 @@ use Rattle.network.specs.Network.{Network}
 use Rattle.network.specs.Inside.{Fit}
 use Rattle.meshes.specs.Meshes.{other_way, leave_by, turned, next_direction, either_way}
 use Rattle.meshes.specs.Inside.{every, place_after, order_in, Laid, Linked}
-use Rattle.meshes.proofs.Directions.{other_way_even, other_way_odd, other_way_twice, other_way_below, leave_first, leave_second, leave_one, after_more, after_last, after_in}
+use Rattle.meshes.proofs.Directions.{other_way_twice, other_way_below, leave_one, after_in}
 use Rattle.meshes.proofs.Turning.{same_place, once, member, member_way, stands}
 
-module _ (net : Network) (fit : Fit net) (order starts : List ℕ) (laid : Laid net order starts) where
+-- how many places the part of v has
+abbrev pub many_at : List ℕ → ℕ → ℕ
+many_at starts v = get_or starts (v + 1) 0 - get_or starts v 0
+
+-- the first i places of v are done
+pub record Linking (net : Network) (order starts : List ℕ) (v i : ℕ) (nexts : List ℕ) : Type 0 where
+  pub before : Linked net order starts v nexts
+  pub here : (j : ℕ) → j < i
+      → get_or nexts (other_way (leave_by net.ends v (get_or (order_in order starts v) j 0))) 0
+      ≡ leave_by net.ends v (get_or (order_in order starts v) (place_after (length (order_in order starts v)) j) 0)
+
+module _ {net : Network} (fit : Fit net) {order starts : List ℕ} (laid : Laid net order starts) where
   abbrev ends : List ℕ
   ends = net.ends
 
@@ -27,31 +37,26 @@ module _ (net : Network) (fit : Fit net) (order starts : List ℕ) (laid : Laid 
   abbrev from : ℕ → ℕ
   from v = get_or starts v 0
 
-  abbrev many_at : ℕ → ℕ
-  many_at v = get_or starts (v + 1) 0 - get_or starts v 0
-
-  part_long : (v : ℕ) → v < net.vertices → length (rot v) ≡ many_at v
+  part_long : (v : ℕ) → v < net.vertices → length (rot v) ≡ many_at starts v
   part_long v h = length-slice (from v) (from (v + 1)) order (omega (arith, laid.inside v h, laid.order_long))
 
-  part_at : (v i : ℕ) → v < net.vertices → i < many_at v → get_or (rot v) i 0 ≡ get_or order (from v + i) 0
+  part_at : (v i : ℕ) → v < net.vertices → i < many_at starts v → get_or (rot v) i 0 ≡ get_or order (from v + i) 0
   part_at v i h g = get_or-drop (from v) _ i 0 ∙ get_or-take (from (v + 1)) order (from v + i) 0 (omega arith)
 
-  -- the place i of v, as the code finds it
-  pub laid_line : (v i k : ℕ) → v < net.vertices → i < many_at v → k ≡ get_or order (from v + i) 0 → k < net.lines
-  laid_line v i k h g e =
-      subst (λ (x : ℕ). x < net.lines) (part_at v i h g ∙ sym e)
-      (member net fit every rot laid.whole v i h (subst (λ (x : ℕ). i < x) (sym (part_long v h)) g)).0
+  -- the line at the place i of v, as the code finds it, has a first end
+  pub laid_line : {v i : ℕ} → v < net.vertices → i < many_at starts v
+      → let k = get_or order (from v + i) 0 in (k < 2048) × (2 * k < length net.ends)
+  laid_line {v} {i} h g =
+      let k = get_or order (from v + i) 0 in
+      let in_lines : k < net.lines =
+      subst (λ (x : ℕ). x < net.lines) (part_at v i h g)
+      (member net fit every rot laid.whole v i h (subst (λ (x : ℕ). i < x) (sym (part_long v h)) g)).0 in
+      (omega (arith, fit.few_lines), omega (arith, fit.ends_long))
 
-  -- the first i places of v are done
-  pub record Linking (v i : ℕ) (nexts : List ℕ) : Type 0 where
-    pub before : Linked net order starts v nexts
-    pub upto : i ≤ many_at v
-    pub here : (j : ℕ) → j < i → get_or nexts (other_way (leave_by ends v (get_or (rot v) j 0))) 0 ≡ leave_by ends v (get_or (rot v) (place_after (length (rot v)) j) 0)
+  pub linking_start : {v : ℕ} {nexts : List ℕ} → Linked net order starts v nexts → Linking net order starts v 0 nexts
+  linking_start L = record { before = L; here = λ j h. absurd (omega arith) }
 
-  pub linking_start : (v : ℕ) (nexts : List ℕ) → Linked net order starts v nexts → Linking v 0 nexts
-  linking_start v nexts L = record { before = L; upto = omega arith; here = λ j h. absurd (omega arith) }
-
-  module _ (v i : ℕ) (nexts : List ℕ) (h : v < net.vertices) (L : Linking v i nexts) (g : i < many_at v) where
+  module _ {v i : ℕ} {nexts : List ℕ} (h : v < net.vertices) (L : Linking net order starts v i nexts) (g : i < many_at starts v) where
     in_part : i < length (rot v)
     in_part = subst (λ (x : ℕ). i < x) (sym (part_long v h)) g
 
@@ -70,10 +75,10 @@ module _ (net : Network) (fit : Fit net) (order starts : List ℕ) (laid : Laid 
         same_place (rot v) (λ z. once net fit every rot laid.whole v z h) j i k in_part
         (leave_one ends v _ _ (sym (other_way_twice _) ∙ ap other_way q ∙ other_way_twice _))
 
-    pub linking_more : (d e : ℕ) → d ≡ other_way (leave_by ends v (get_or order (from v + i) 0)) → e ≡ leave_by ends v (get_or order (from v + place_after (many_at v) i) 0)
-        → Linking v (i + 1) (set nexts d e)
+    pub linking_more : {d e : ℕ} → d ≡ other_way (leave_by ends v (get_or order (from v + i) 0)) → e ≡ leave_by ends v (get_or order (from v + place_after (many_at starts v) i) 0)
+        → Linking net order starts v (i + 1) (set nexts d e)
     unfolding back
-    linking_more d e is_d is_e =
+    linking_more {d} {e} is_d is_e =
         let n = length (rot v) in
         let d_is : d ≡ back i = is_d ∙ ap (λ (x : ℕ). other_way (leave_by ends v x)) (sym (part_at v i h g)) in
         let e_is : e ≡ leave_by ends v (get_or (rot v) (place_after n i) 0) =
@@ -95,7 +100,6 @@ module _ (net : Network) (fit : Fit net) (order starts : List ℕ) (laid : Laid 
                     omega arith)
                     ∙ L.before.so_far x x_in x_at;
               };
-          upto = omega arith;
           here = λ j l.
               cases (eq_or j i)
               (λ q.
@@ -108,9 +112,9 @@ module _ (net : Network) (fit : Fit net) (order starts : List ℕ) (laid : Laid 
               get_or-set_other nexts d (back j) e 0 (λ z. q (back_one j (omega (arith, in_part)) (z ∙ d_is))) ∙ L.here j (omega arith));
         }
 
-  pub linking_done : (v i : ℕ) (nexts : List ℕ) → v < net.vertices → Linking v i nexts → many_at v ≤ i → Linked net order starts (v + 1) nexts
+  pub linking_done : {v i : ℕ} {nexts : List ℕ} → v < net.vertices → Linking net order starts v i nexts → many_at starts v ≤ i → Linked net order starts (v + 1) nexts
   unfolding next_direction
-  linking_done v i nexts h L g =
+  linking_done {v} {i} {nexts} h L g =
       record {
         nexts_long = L.before.nexts_long;
         so_far = λ d d_in d_at.
@@ -130,29 +134,6 @@ module _ (net : Network) (fit : Fit net) (order starts : List ℕ) (laid : Laid 
             q
             (let t = stands net fit every rot laid.whole x w in (t.place_below, t.itself, t.turns)) in
             ap (λ (y : ℕ). get_or nexts y 0) (sym (other_way_twice d) ∙ ap other_way (sym s.1))
-            ∙ L.here j (omega (arith, s.0, part_long v h, L.upto))
+            ∙ L.here j (omega (arith, s.0, part_long v h))
             ∙ sym s.2);
       }
-
-  pub linked_start : (nexts : List ℕ) → length nexts ≡ 4096 → Linked net order starts 0 nexts
-  linked_start nexts long = record { nexts_long = long; so_far = λ d h g. absurd (omega arith) }
-
--- The small steps of the code
-
-pub place_more : (n i : ℕ) → i + 1 < n → i + 1 ≡ place_after n i
-place_more n i h = add-one i ∙ sym (after_more n i (subst (λ (x : ℕ). x < n) (add-one i) h))
-
-pub place_round : (n i : ℕ) → n ≤ i + 1 → 0 ≡ place_after n i
-place_round n i h = sym (after_last n i (subst (λ (x : ℕ). n ≤ x) (add-one i) h))
-
-pub way_first : (ends : List ℕ) (v k w : ℕ) → (w ≡ get_or ends (2 * k) 0) × (w < 65536) → w ≡ v → 2 * k ≡ leave_by ends v k
-way_first ends v k w is_w e = sym (leave_first ends v k (sym is_w.0 ∙ e))
-
-pub way_second : (ends : List ℕ) (v k w : ℕ) → (w ≡ get_or ends (2 * k) 0) × (w < 65536) → (w ≡ v → ⊥) → 2 * k + 1 ≡ leave_by ends v k
-way_second ends v k w is_w d = sym (leave_second ends v k (λ e. d (is_w.0 ∙ e)))
-
-pub back_even : (d : ℕ) → d % 2 ≡ 0 → d + 1 ≡ other_way d
-back_even d e = add-one d ∙ sym (other_way_even d e)
-
-pub back_odd : (d : ℕ) → (d % 2 ≡ 0 → ⊥) → d - 1 ≡ other_way d
-back_odd d n = let n' : d % 2 ≢ 0 = n in sym (other_way_odd d (omega arith))

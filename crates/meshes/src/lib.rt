@@ -6,11 +6,11 @@
 
 pub mod turns;
 
-ghost use Rattle.std.specs.Prelude.{◌≡◌, ℕ, ◌+◌, ◌*◌, ◌<◌, replicate};
+ghost use Rattle.std.specs.Prelude.{◌≡◌, ◌+◌, ◌*◌, replicate};
 ghost use Rattle.network.specs.Marks.{absent};
 ghost use Rattle.meshes.specs.Inside.{Numberable, Numbered, Followable, Followed, Meshed, Sized};
 
-use network::{Absent, wide};
+use network::Absent;
 
 // Numbers the walks in rising order of their lowest direction: a direction that is on no mesh yet is the lowest of its own. Writes the mesh of each
 // direction to an empty table, and answers how many meshes there are.
@@ -20,14 +20,11 @@ pub fn numbered(directions: usize, nexts: &[u16; 4096], mesh: &mut [u16; 4096]) 
     ensures { Numbered directions nexts.now result mesh.new }
 {
     let mut count = 0;
-    let mut d = 0;
-    while d < directions {
-        let after = d + 1;
+    for d in 0..directions {
         if mesh[d] == Absent::ENTRY {
             follow(directions, d, count, nexts, mesh);
             count += 1;
         }
-        d = after;
     }
     count
 }
@@ -41,7 +38,7 @@ fn follow(directions: usize, d: usize, number: usize, nexts: &[u16; 4096], mesh:
     let mut x = d;
     while mesh[x] == Absent::ENTRY {
         mesh[x] = number as u16;
-        x = wide(nexts[x]);
+        x = nexts[x] as usize;
     }
 }
 
@@ -51,15 +48,12 @@ pub fn sized(lines: usize, mesh: &[u16; 4096], sizes: &mut [u16; 4097])
     requires no_sizes { sizes.old ≡ replicate 4097 0 }
     ensures { Sized lines mesh.now sizes.new }
 {
-    let mut k = 0;
-    while k < lines {
-        let after = k + 1;
-        let forth = wide(mesh[2 * k]);
-        let back = wide(mesh[2 * k + 1]);
-        sizes[forth] = sizes[forth] + 1;
+    for k in 0..lines {
+        let forth = mesh[2 * k] as usize;
+        let back = mesh[2 * k + 1] as usize;
+        sizes[forth] += 1;
         if forth != back {
-            sizes[back] = sizes[back] + 1;
+            sizes[back] += 1;
         }
-        k = after;
     }
 }

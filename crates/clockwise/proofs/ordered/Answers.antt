@@ -1,31 +1,26 @@
 -- Each step gives the next what it asks.
-use Rattle.clockwise.proofs.Ordering.{order_fannable, order_rooted, order_sets_out, order_layable, order_done}
-use mathlib.Core.Path.{refl}
+use Rattle.clockwise.proofs.Ordering.{order_sets_out, order_layable, order_done}
 use mathlib.Core.List.{[]}
 use Rattle.clockwise.proofs.ordered.Goals as goal
 
-pub fanned-requires : goal.fanned-requires
-fanned-requires c = record { some_tree = record { tree = c.requires.some_tree.tree; asked = order_fannable c.requires.some_tree.asked }; no_fans = refl }
-
-pub raised-requires : goal.raised-requires
-raised-requires c = record { some_tree = record { tree = c.requires.some_tree.tree; asked = order_rooted c.requires.some_tree.asked }; no_uppers = refl }
-
 pub walk-requires : goal.walk-requires
-walk-requires c = let p = c.requires.some_tree.asked in
+walk-requires g c =
     record {
-      tree = c.requires.some_tree.tree;
+      tree = g.S;
       found = [];
-      asked = order_sets_out p (c.fanned.ensures _ (order_fannable p)) (c.raised.ensures _ (order_rooted p));
+      asked = order_sets_out c.requires c.fanned-out.ensures c.raised-uppers.ensures c.empty-groups.ensures;
     }
 
 pub laid-requires : goal.laid-requires
-laid-requires c = let p = c.requires.some_tree.asked in
-    let f = c.fanned.ensures _ (order_fannable p) in
-    let u = c.raised.ensures _ (order_rooted p) in
-    record { layable = order_layable p f u (c.walk.ensures _ [] (order_sets_out p f u)); lengths = c.requires.lengths }
+laid-requires g c =
+    let p = c.requires in
+    let f = c.fanned-out.ensures in
+    let u = c.raised-uppers.ensures in
+    order_layable p f u (c.walk.ensures g.S [] (order_sets_out p f u c.empty-groups.ensures))
 
 pub returns : goal.returns
-returns c = λ S p.
-    let f = c.fanned.ensures S (order_fannable p) in
-    let u = c.raised.ensures S (order_rooted p) in
-    order_done p f u (c.walk.ensures S [] (order_sets_out p f u)) c.laid.ensures
+returns g c =
+    let p = c.requires in
+    let f = c.fanned-out.ensures in
+    let u = c.raised-uppers.ensures in
+    order_done p f u (c.walk.ensures g.S [] (order_sets_out p f u c.empty-groups.ensures)) c.laid.ensures

@@ -1,21 +1,15 @@
--- The lines of the fan up to e are written.
-use Rattle.clockwise.proofs.Spreading.{spreading_start, onward, spreading_fits, spreading_less, spreading_more, spreading_done}
+-- The lines of the fan up to the next are written.
+use Rattle.clockwise.proofs.Spreading.{spreading_start, spreading_fits, spreading_less, spreading_more}
 use Rattle.clockwise.proofs.spread.Goals as goal
 
-pub loop-e-init : goal.loop-e-init
-loop-e-init c = search spreading_start
+pub loop-next-init : goal.loop-next-init
+loop-next-init c = spreading_start c.requires c.first-next.ensures
 
-pub beside-i-requires : goal.beside-i-requires
-beside-i-requires c = search spreading_fits
+pub beside-requires : goal.beside-requires
+beside-requires c = spreading_fits c.loop-next.invariant c.in-Some.is
 
-pub after-e-requires : goal.after-e-requires
-after-e-requires c = (onward c.loop-e.invariant c.loop-e-test.true).line_in
+pub loop-next-smaller : goal.loop-next-smaller
+loop-next-smaller c = spreading_less c.loop-next.invariant c.in-Some.is _ c.after-next.ensures
 
-pub loop-e-smaller : goal.loop-e-smaller
-loop-e-smaller c = rw c.after-e.ensures.0 (spreading_less c.loop-e.invariant c.loop-e-test.true)
-
-pub loop-e-preserved : goal.loop-e-preserved
-loop-e-preserved c = search spreading_more
-
-pub returns : goal.returns
-returns c = search spreading_done
+pub loop-next-preserved : goal.loop-next-preserved
+loop-next-preserved c = spreading_more c.loop-next.invariant c.in-Some.is _ c.after-next.ensures c.beside.ensures

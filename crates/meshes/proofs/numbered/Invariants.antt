@@ -1,10 +1,6 @@
 -- The walks with a lowest direction below d have their numbers.
-use Prim.Native.Nat.{◌-◌}
 use Rattle.meshes.proofs.Following.{Marking}
 use Rattle.meshes.proofs.numbered.Given as goal
 
 abbrev pub invariant-loop-d : goal.invariant-loop-d
 invariant-loop-d l = Marking l.directions l.nexts l.mesh l.count l.d
-
-abbrev pub decreases-loop-d : goal.decreases-loop-d
-decreases-loop-d l = l.directions - l.d

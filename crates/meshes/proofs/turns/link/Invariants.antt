@@ -1,10 +1,7 @@
 -- The first i places of v are done.
-use Prim.Native.Nat.{◌-◌}
-use Rattle.meshes.proofs.Linkable.{Linkable}
+use Rattle.network.specs.Network.{network_of}
+use Rattle.meshes.proofs.Links.{Linking}
 use Rattle.meshes.proofs.turns.link.Given as goal
 
 abbrev pub invariant-loop-i : goal.invariant-loop-i
-invariant-loop-i l = Linkable l.vertices l.lines l.ends l.order l.starts l.v l.from l.count l.i l.nexts
-
-abbrev pub decreases-loop-i : goal.decreases-loop-i
-decreases-loop-i l = l.count - l.i
+invariant-loop-i l = Linking (network_of l.vertices l.lines l.ends) l.order l.starts l.v l.i l.nexts
