@@ -13,7 +13,7 @@ use Rattle.laws.proofs.Counting.{many_le}
 use Rattle.network.specs.Network.{Network, network}
 use Rattle.network.specs.Numbers.{refused, done, Untouched, triple, pair}
 use Rattle.network.specs.Inside.{Fit}
-use Rattle.network.specs.declared.Answer.{Answer}
+use Rattle.network.specs.Numbers.{Answer}
 use Rattle.network.proofs.Checks.{sized}
 use Rattle.network.proofs.Sifting.{checked_elim}
 use Rattle.search.specs.Machine.{finished, tree_in}

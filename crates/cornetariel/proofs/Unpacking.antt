@@ -3,7 +3,7 @@ use mathlib.Core.Path.{◌≡◌, sym, ap, ◌∙◌}
 use Prim.Native.Nat.{ℕ, ◌+◌, ◌*◌, ◌/◌, ◌%◌}
 use native.Mathlib.Nat.{div-eq_of_lt-le}
 use native.Mathlib.Omega.{arith}
-use Rattle.network.specs.declared.Answer.{Answer}
+use Rattle.network.specs.Numbers.{Answer}
 use Rattle.cornetariel.specs.Face.{packed, unpack, Packed, Small}
 
 pub unpacked : (a : Answer) → Small a → unpack (packed a) ≡ a

@@ -1,10 +1,14 @@
 -- An answer as one number, and what the C functions say. (docs/RULES.md, "For C".)
 use Rattle.std.specs.Prelude.{List, ◌≡◌, ℕ, ◌+◌, ◌*◌, ◌/◌, ◌%◌, ◌<◌}
-use Rattle.network.specs.declared.Answer.{Answer}
+use Rattle.network.specs.Numbers.{Answer}
 use Rattle.search.specs.Orient.{Orient}
 use Rattle.text.specs.Calls.{Read, Write}
 use Rattle.choice.specs.Calls.{FirstChoice, NextChoice}
 use Rattle.drawing.specs.Draw.{Draw}
+
+-- An answer's parts.
+abbrev pub joined : ℕ → ℕ → ℕ → Answer
+joined number count second = record { number = number; count = count; second = second }
 
 -- The number, 256 times the first count, and 2^32 times the second.
 abbrev pub packed : Answer → ℕ

@@ -2,10 +2,11 @@
 // allows with what is in the buffers (specs/Face.antt). The crate cornetariel_c exports them.
 #![tactic(auto)]
 
-ghost use Rattle.std.specs.Prelude.{◌≡◌, ℕ, ◌+◌, ◌*◌, ◌<◌};
-ghost use Rattle.cornetariel.specs.Face.{packed, Small, OrientC, FirstC, NextC, DrawC, ReadC, WriteC};
+ghost use Rattle.std.specs.Prelude.{◌≡◌, ◌+◌, ◌*◌, ◌<◌};
+ghost use Rattle.network.specs.Numbers.{answered, answered_two, refusing};
+ghost use Rattle.cornetariel.specs.Face.{joined, packed, Small, OrientC, FirstC, NextC, DrawC, ReadC, WriteC};
 
-use network::Answer;
+use network::Refusal;
 
 pub fn cornetariel_orient(
     vertices: usize,
@@ -54,7 +55,7 @@ pub fn cornetariel_draw(
 pub fn cornetariel_read(text: &[u8], ends: &mut [u16]) -> u64
     ensures { ReadC text.now ends.old result ends.new }
 {
-    pack(text::read(text, ends))
+    pack_two(text::read(text, ends))
 }
 
 pub fn cornetariel_write(vertices: usize, ends: &[u16], text: &mut [u8]) -> u64
@@ -63,10 +64,43 @@ pub fn cornetariel_write(vertices: usize, ends: &[u16], text: &mut [u8]) -> u64
     pack(text::write(vertices, ends, text))
 }
 
-// An answer as one number.
-fn pack(answer: Answer) -> u64
-    requires { Small answer }
-    ensures { result ≡ packed answer }
+// What a call answers, as one number.
+fn pack(answer: Result<usize, Refusal>) -> u64
+    requires { Small (answered answer) }
+    ensures { result ≡ packed (answered answer) }
 {
-    answer.number as u64 + 256 * (answer.count as u64) + 4294967296 * (answer.second as u64)
+    match answer {
+        Ok(count) => join(0, count, 0),
+        Err(refusal) => pack_refusal(refusal),
+    }
+}
+
+// The same of a call that answers two counts. (Apart from `pack`: the statements are about `answered` of one count and `answered_two` of two.)
+fn pack_two(answer: Result<(usize, usize), Refusal>) -> u64
+    requires { Small (answered_two answer) }
+    ensures { result ≡ packed (answered_two answer) }
+{
+    match answer {
+        Ok((count, second)) => join(0, count, second),
+        Err(refusal) => pack_refusal(refusal),
+    }
+}
+
+// A refusal has no counts, but the one that has a ring tells its length in the place of the second.
+fn pack_refusal(refusal: Refusal) -> u64
+    requires { Small (refusing refusal) }
+    ensures { result ≡ packed (refusing refusal) }
+{
+    let size = match refusal {
+        Refusal::Ringed(size) => size,
+        _ => 0,
+    };
+    join(u8::from(refusal), 0, size)
+}
+
+fn join(number: u8, count: usize, second: usize) -> u64
+    requires { Small (joined number count second) }
+    ensures { result ≡ packed (joined number count second) }
+{
+    number as u64 + 256 * (count as u64) + 4294967296 * (second as u64)
 }

@@ -1,3 +1,4 @@
+pub mod Refusing
 pub mod Putting
 pub mod Stepping
 pub mod Showing

@@ -2,19 +2,18 @@
 use mathlib.Core.Bool.{true, false}
 use mathlib.Core.List.{List}
 use mathlib.Core.Logic.{inl, inr}
-use mathlib.Core.Path.{◌≡◌, refl, sym, ◌∙◌, ap}
+use mathlib.Core.Path.{◌≡◌, refl, sym, ◌∙◌, ap, subst}
 use Prim.Native.Nat.{ℕ, ◌*◌, ◌≤◌, ◌<◌}
 use native.Mathlib.Omega.{arith}
 use borrow.Author.Tests.{lt-ltb, le-ltb, ltb-true}
 use lib.Dec.{ltb}
 use lib.ListN.{length, take, replicate}
 use lib.Seq.{length-take-le}
-use Rattle.laws.proofs.Filling.{filled_long}
 use Rattle.laws.proofs.Cases.{cases, bool, true_false}
 use Rattle.network.proofs.Sifting.{formed_map}
 use Rattle.network.specs.Network.{network, Connected}
 use Rattle.network.specs.Numbers.{refused, Untouched, oversize, mispaired, Accepted}
-use Rattle.network.specs.declared.Answer.{Answer}
+use Rattle.network.specs.Numbers.{Answer}
 use Rattle.network.proofs.Checks.{sized}
 use Rattle.text.specs.Text.{vertices_in, lines_in, ends_in}
 use Rattle.text.specs.Calls.{Read}
@@ -73,8 +72,10 @@ module _ (input ends : List ℕ) (long : length ends ≡ 4096) (short : length i
             ),
           )
 
-  pub refused_input : (r.number ≡ 0 → ⊥) → (out : List ℕ) → length out ≡ 262222 → (to : ℕ) (new : List ℕ) → Put out 0 (answer_line r.number) to new → Paged (Prints input) to new
-  refused_input z out roomy to new q = paged (Prints input) out (answer_line r.number) to new q (omega (arith, answer_long r.number)) (says z)
+  pub refused_input : (k : ℕ) → r.number ≡ k → (k ≡ 0 → ⊥) → (out : List ℕ) → length out ≡ 262222 → (to : ℕ) (new : List ℕ) → Put out 0 (answer_line k) to new → Paged (Prints input) to new
+  refused_input k is z out roomy to new q =
+      paged (Prints input) out (answer_line k) to new q (omega (arith, answer_long k))
+      (subst (λ j. Prints input (answer_line j)) is (says (λ e. z (sym is ∙ e))))
 
   -- Taken
 
@@ -97,12 +98,6 @@ module _ (input ends : List ℕ) (long : length ends ≡ 4096) (short : length i
 
     pub few_lines : r.second ≤ 2048
     few_lines = omega (arith, few, lines_are)
-
-    pub ends_fit : 2 * r.second ≤ length ends'
-    ends_fit = omega (arith, few_lines, lines_are, ap length taken.1.1, filled_long (2 * m) (ends_in input) ends (omega (arith, length_ends_in input)) (omega (arith, few)))
-
-    pub ends_long : 2 * r.second ≡ length (take (2 * r.second) ends')
-    ends_long = sym (length-take-le (2 * r.second) ends' ends_fit)
 
     pub sides_fit : r.second ≤ length blank_sides
     sides_fit = omega (arith, few_lines, blank 2048)
@@ -149,7 +144,3 @@ module _ (input ends : List ℕ) (long : length ends ≡ 4096) (short : length i
                 ),
               );
         }
-
--- What the program writes is the page
-pub page_long : (P : List ℕ → Type 0) (r : ℕ) (out : List ℕ) → Paged P r out → r ≡ length (take r out)
-page_long P r out w = sym (length-take-le r out w.within)

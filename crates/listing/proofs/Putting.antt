@@ -2,36 +2,25 @@
 use mathlib.Core.Bool.{false}
 use mathlib.Core.List.{List, [], ◌∷◌, ◌++◌}
 use mathlib.Core.Path.{◌≡◌, refl, sym, ◌∙◌, ap}
-use Prim.Native.Nat.{ℕ, zero, suc, ◌+◌, ◌*◌, ◌≤◌, ◌<◌}
+use Prim.Native.Nat.{ℕ, zero, suc, ◌+◌, ◌*◌, ◌≤◌, ◌<◌, min}
 use native.Mathlib.Omega.{arith}
-use borrow.Author.Tests.{eq-eqb, ne_eqb}
+use borrow.Author.Tests.{ne_eqb}
 use lib.Dec.{eqb}
-use lib.ListN.{set, length, length-append, length-set}
-use lib.Seq.{sets, length-sets}
+use lib.ListN.{get_or, set, length, take, length-append}
+use lib.Seq.{sets, length-sets, length-take-le, get_or-take}
 use Rattle.laws.specs.Lists.{from, upto, at}
 use Rattle.laws.specs.Sorting.{gather}
 use Rattle.laws.proofs.Cases.{cases, bool}
 use Rattle.laws.proofs.Places.{gather_next}
 use Rattle.digits.specs.Digits.{digits}
 use Rattle.digits.proofs.Back.{length_digits}
+use Rattle.text.proofs.Filling.{sets_append}
 use Rattle.side.specs.Sides.{none}
 use Rattle.listing.specs.Page.{answer_line, counts_line, side_digits, choice_line, size_line, step_line, ring_page}
 use Rattle.listing.specs.Inside.{Put, side_piece, has_side, Ringable}
 
 pub join : (p q l : List ℕ) (i j : ℕ) → j ≡ i + length p → sets (sets l i p) j q ≡ sets l i (p ++ q)
-join [] q l i j e = let e' : j ≡ i = omega arith in rw e'
-join (a ∷ p) q l i j e = join p q (set l i a) (suc i) j (omega arith)
-
--- nothing that is put changes the length
-module _ (l : List ℕ) (i : ℕ) (p a : List ℕ) (e : a ≡ sets l i p) (j : ℕ) (q b : List ℕ) (f : b ≡ sets a j q) where
-  two_pieces : length b ≡ length l
-  two_pieces = ap length f ∙ length-sets a j q ∙ ap length e ∙ length-sets l i p
-
-  pub two_long : (k x : ℕ) → length (set b k x) ≡ length l
-  two_long k x = length-set b k x ∙ two_pieces
-
-  pub three_long : (h : ℕ) (r c : List ℕ) → c ≡ sets b h r → (k x : ℕ) → length (set c k x) ≡ length l
-  three_long h r c g k x = length-set c k x ∙ ap length g ∙ length-sets b h r ∙ two_pieces
+join p q l i j e = rw e (sym (sets_append l i p q))
 
 module _ (old : List ℕ) (place : ℕ) where
   -- a piece and then another
@@ -83,13 +72,10 @@ piece_short : (side : ℕ) → length (side_piece side) ≤ 2
 piece_short side = cases (bool (eqb side none)) (λ t. rw t (omega arith)) (λ f. rw f (omega (arith, length_digits 2 side)))
 
 module _ (old : List ℕ) (place side : ℕ) where
-  pub side_none : side ≡ none → Put old place (side_piece side) place old
-  side_none e = rw (eq-eqb side none e) (record { after = omega arith; put = refl })
-
-  pub side_put : (side ≡ none → ⊥) → (byte : ℕ) → byte ≡ side → (new : List ℕ) → new ≡ sets old place (digits 2 byte) → Put old place (side_piece side) (place + 2) new
-  side_put d byte b new e =
+  pub side_put : (side ≡ none → ⊥) → (new : List ℕ) → new ≡ sets old place (digits 2 side) → Put old place (side_piece side) (place + 2) new
+  side_put d new e =
       let no : eqb side none ≡ false = ne_eqb side none d in
-      rw no (record { after = omega (arith, length_digits 2 side); put = rw b at e })
+      rw no (record { after = omega (arith, length_digits 2 side); put = e })
 
 module _ (choice : List ℕ) where
   -- the sides of its first k lines
@@ -122,12 +108,6 @@ module _ (choice : List ℕ) where
       long : length out ≡ length old
       long = rw w.so_far.put (length-sets old place (sides k))
 
-      pub next_fits : k < length choice → to + 2 ≤ length out
-      next_fits h = omega (arith, long, w.few, w.so_far.after)
-
-      pub feed_fits : to < length out
-      feed_fits = omega (arith, long, w.few, w.so_far.after, w.within)
-
       pub putting_more : k < length choice → (r : ℕ) (new : List ℕ) → Put out to (side_piece (at choice k)) r new → Putting old place new r (k + 1)
       putting_more h r new q =
           let one : k + 1 ≡ suc k = omega arith in
@@ -137,9 +117,6 @@ module _ (choice : List ℕ) where
       choice_put h =
           let e : k ≡ length choice = omega (arith, w.within) in
           rw (sym e) (put_more old place (sides k) to out w.so_far (10 ∷ []) (to + 1) (set out to 10) (omega arith) refl)
-
-      pub choice_long : length (set out to 10) ≡ length old
-      choice_long = length-set out to 10 ∙ long
 
 -- A ring
 
@@ -160,13 +137,13 @@ length_size size = omega (arith, length-append (digits 2 7) (digits 4 size ++ (1
 length_step : (line kind : ℕ) → length (step_line line kind) ≡ 7
 length_step line kind = omega (arith, length-append (digits 4 line) (digits 2 kind ++ (10 ∷ [])), length-append (digits 2 kind) (10 ∷ []), length_digits 4 line, length_digits 2 kind)
 
-pub stepped : (old : List ℕ) (place line kind byte : ℕ) → byte ≡ kind → (a b : List ℕ) → a ≡ sets old place (digits 4 line) → b ≡ sets a (place + 4) (digits 2 byte)
+pub stepped : (old : List ℕ) (place line kind : ℕ) (a b : List ℕ) → a ≡ sets old place (digits 4 line) → b ≡ sets a (place + 4) (digits 2 kind)
     → Put old place (step_line line kind) (place + 7) (set b (place + 6) 10)
-stepped old place line kind byte e a b p q =
+stepped old place line kind a b p q =
     let four = length_digits 4 line in
     let two = length_digits 2 kind in
     let feed : List ℕ = 10 ∷ [] in
-    let last : set b (place + 6) 10 ≡ sets a (place + 4) (digits 2 kind ++ feed) = rw (q, e) (join (digits 2 kind) feed a (place + 4) (place + 6) (omega arith)) in
+    let last : set b (place + 6) 10 ≡ sets a (place + 4) (digits 2 kind ++ feed) = rw q (join (digits 2 kind) feed a (place + 4) (place + 6) (omega arith)) in
     record { after = omega (arith, length_step line kind); put = last ∙ rw p (join (digits 4 line) (digits 2 kind ++ feed) old place (place + 4) (omega arith)) }
 
 module _ (size : ℕ) (line kind : List ℕ) where
@@ -182,12 +159,17 @@ module _ (size : ℕ) (line kind : List ℕ) where
     pub place : to ≡ start + 7 * i
     pub so_far : Put old start (steps i) to out
 
-  module _ (first : List ℕ) (r : Ringable size line kind first) where
-    pub size_fits : 7 ≤ length first
-    size_fits = omega (arith, r.roomy)
+  -- what both lists have at the place that the loop has come to
+  abbrev pub AtPlace : ℕ → ℕ → ℕ → Type 0
+  AtPlace i x y =
+      (i < length (take size line)) × (i < length (take size kind)) × ((d : ℕ) → x ≡ get_or (take size line) i d) × ((d : ℕ) → y ≡ get_or (take size kind) i d)
 
-    pub size_small : size < 65536
-    size_small = omega (arith, r.few)
+  module _ (first : List ℕ) (r : Ringable size line kind first) where
+    lines_long : length (take size line) ≡ size
+    lines_long = length-take-le size line r.lines
+
+    kinds_long : length (take size kind) ≡ size
+    kinds_long = length-take-le size kind r.kinds
 
     module _ (old : List ℕ) (start : ℕ) (f : Put first 0 (size_line size) start old) where
       pub ringing_none : Ringing old start old start 0
@@ -198,21 +180,26 @@ module _ (size : ℕ) (line kind : List ℕ) where
         pub ring_long : length out ≡ length first
         ring_long = ap length w.so_far.put ∙ length-sets old start (steps i) ∙ ap length f.put ∙ length-sets first 0 (size_line size)
 
-        pub line_in : i < size → i < length line
-        line_in h = omega (arith, r.lines)
+        -- the step's line and kind are those of the next place
+        module _ (x y : ℕ) (t : AtPlace i x y) where
+          here : i < size
+          here = omega (arith, t.0, lines_long)
 
-        pub step_fits : i < size → to + 7 ≤ length out
-        step_fits h = omega (arith, ring_long, r.few, r.roomy, w.place, f.after, length_size size)
+          pub step_fits : to + 7 ≤ length out
+          step_fits = omega (arith, here, ring_long, r.few, r.roomy, w.place, f.after, length_size size)
 
-        pub ringing_step : i < size → (s : ℕ) (new : List ℕ) → Put out to (step i) s new → Ringing old start new s (i + 1)
-        ringing_step h s new q =
-            let one : i + 1 ≡ suc i = omega arith in
-            let put = put_more old start (steps i) to out w.so_far (step i) s new q.after q.put in
-            rw one (record { within = omega arith; place = omega (arith, q.after, length_step (at line i) (at kind i), w.place); so_far = rw (gather_next step i) put })
+          pub ringing_step : (s : ℕ) (new : List ℕ) → Put out to (step_line x y) s new → (j : ℕ) → j ≡ i + 1 → Ringing old start new s j
+          ringing_step s new q j e =
+              let one : j ≡ suc i = omega arith in
+              let x_is : at line i ≡ x = sym (get_or-take size line i 0 here) ∙ sym (t.2 0) in
+              let y_is : at kind i ≡ y = sym (get_or-take size kind i 0 here) ∙ sym (t.3 0) in
+              let this : step i ≡ step_line x y = rw (x_is, y_is) in
+              let put = put_more old start (steps i) to out w.so_far (step_line x y) s new q.after q.put in
+              rw one (record { within = omega (arith, here); place = omega (arith, q.after, length_step x y, w.place); so_far = rw (gather_next step i, this) put })
 
-        pub ring_put : size ≤ i → Put first 0 (ring_page size (at line) (at kind)) to out
+        pub ring_put : i ≡ min (length (take size line)) (length (take size kind)) → Put first 0 (ring_page size (at line) (at kind)) to out
         ring_put h =
-            let e : i ≡ size = omega (arith, w.within) in
+            let e : i ≡ size = omega (arith, h, lines_long, kinds_long) in
             let put = put_more first 0 (size_line size) start old f (steps i) to out w.so_far.after w.so_far.put in
             rw e at put
 

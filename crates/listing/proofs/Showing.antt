@@ -13,8 +13,11 @@ use Rattle.laws.specs.Lists.{at}
 use Rattle.laws.proofs.Cases.{cases}
 use Rattle.laws.proofs.Tests.{either_no}
 use Rattle.network.specs.Network.{Network, network}
-use Rattle.network.specs.declared.Answer.{Answer}
-use Rattle.network.specs.Numbers.{Untouched, triple}
+use Rattle.network.specs.Numbers.{Answer}
+use Rattle.network.specs.Numbers.{refusal_number, refusing, Untouched, triple}
+use Rattle.network.specs.declared.Refusal.{Refusal}
+use Rattle.network.specs.declared.Refusal.TheVariants as Variants
+use Rattle.network.proofs.Refusing.{refusal_some}
 use Rattle.network.proofs.Checks.{sized}
 use Rattle.search.specs.Machine.{tree_in}
 use Rattle.search.specs.Orient.{back_lines}
@@ -25,7 +28,8 @@ use Rattle.runs.proofs.Outcomes.{first_says}
 use Rattle.drawing.specs.Draw.{Draw, cramped_draw, Balanced, Drew, meshes_in}
 use Rattle.cornetariel.proofs.Packing.{backs_few}
 use Rattle.listing.specs.Page.{answer_line, counts_line, ring_page, Sheet, Shows}
-use Rattle.listing.specs.Inside.{Put, Ringable, Showable, Listable, Sheetable, Paged, PutChoices}
+use Rattle.listing.specs.Inside.{Put, Ringable, Showable, Sheetable, Paged, PutChoices}
+use Rattle.listing.proofs.Refusing.{refusing_number, ringed_is}
 use Rattle.listing.proofs.Putting.{put_more, answer_long, counts_long, ring_page_long}
 
 pub blank : (n : ℕ) → length (replicate n zero) ≡ n
@@ -77,9 +81,6 @@ module _ (n : ℕ) (ends choice : List ℕ) (back : ℕ) (out : List ℕ) (w : S
       (Check (Proper (tree_in net) (at choice)) Outcome (Untouched (triple order mesh sizes) r (triple order' mesh' sizes') 8)) d)
       (λ y. y.1) (λ y. absurd (y.0 w.listable.proper))
 
-  pub small_answer : r.number < 256
-  small_answer = cases outcome (λ y. let e = ap (λ (z : Answer). z.number) y.1.answers in omega (arith, e)) (λ y. let e = ap (λ (z : Answer). z.number) y.1.answers in omega (arith, e))
-
   pub few_meshes : r.number ≡ 0 → r.count < 65536
   few_meshes z =
       cases outcome
@@ -89,24 +90,17 @@ module _ (n : ℕ) (ends choice : List ℕ) (back : ℕ) (out : List ℕ) (w : S
   pub few_backs : back < 65536
   few_backs = omega (arith, w.counted, backs_few net (fit n ends w.listable.showable.accepted))
 
-  pub refused_page : (r.number ≡ 0 → ⊥) → (to : ℕ) (new : List ℕ) → Put out 0 (answer_line r.number) to new → Paged (Sheet net choice) to new
-  refused_page z to new q = go outcome
+  pub refused_page : (k : ℕ) → r.number ≡ k → (k ≡ 0 → ⊥) → (to : ℕ) (new : List ℕ) → Put out 0 (answer_line k) to new → Paged (Sheet net choice) to new
+  refused_page k is z to new q = go outcome
     where
       go : Outcome → Paged (Sheet net choice) to new
-      go (inl (_, y)) = absurd (z (ap (λ (x : Answer). x.number) y.answers))
+      go (inl (_, y)) = absurd (z (sym is ∙ ap (λ (x : Answer). x.number) y.answers))
       go (inr (e, y)) =
-          let ten = ap (λ (x : Answer). x.number) y.answers in
-          paged (Sheet net choice) out (answer_line r.number) to new q (omega (arith, answer_long r.number, w.listable.showable.roomy)) (inr (e, ap answer_line ten))
+          let ten = sym is ∙ ap (λ (x : Answer). x.number) y.answers in
+          paged (Sheet net choice) out (answer_line k) to new q (omega (arith, answer_long k, w.listable.showable.roomy)) (inr (e, ap answer_line ten))
 
   -- the counts were put, and then the choices
   module _ (z : r.number ≡ 0) (place : ℕ) (mid : List ℕ) (q : Put out 0 (counts_line r.count back) place mid) where
-    pub listable_after : Listable n ends choice mid
-    listable_after =
-        record {
-          showable = record { accepted = w.listable.showable.accepted; long = w.listable.showable.long; roomy = put_long out 0 (counts_line r.count back) place mid q ∙ w.listable.showable.roomy };
-          proper = w.listable.proper;
-        }
-
     pub place_low : place ≤ 11
     place_low = omega (arith, q.after, counts_long r.count back)
 
@@ -183,3 +177,14 @@ module _ (n : ℕ) (ends choice out : List ℕ) (w : Showable n ends choice out)
       go (inr (_, y)) = let e = ap (λ (x : Answer). x.number) y.answers in absurd (omega (arith, e, z))
       go (inl (d, y)) =
           record { within = q.within; allowed = inl (d, record { choice = choice'; long = y.rest.long ∙ w.long; first = y.first; sheet = q.allowed }) }
+
+  -- a refusal that is no ring's is none of a network that read accepts
+  pub only_ringed : (e : Refusal) → r ≡ refusing e → ((size : ℕ) → e ≡ Variants.Ringed size → ⊥) → ⊥
+  only_ringed e is other = go said
+    where
+      number_is : refusal_number e ≡ r.number
+      number_is = sym (ap (λ (x : Answer). x.number) is ∙ refusing_number e)
+
+      go : Said → ⊥
+      go (inl (_, y)) = refusal_some e (number_is ∙ ap (λ (x : Answer). x.number) y.answers)
+      go (inr (_, y)) = let ring = ringed_is e (number_is ∙ ap (λ (x : Answer). x.number) y.answers) in other ring.0 ring.1

@@ -3,7 +3,7 @@
 use mathlib.Core.Bool.{not}
 use mathlib.Core.List.{List, [], ◌∷◌, ◌++◌, append_assoc}
 use mathlib.Core.Logic.{◌⊎◌, inl, inr}
-use mathlib.Core.Path.{◌≡◌, refl, sym, ◌∙◌, ap, subst}
+use mathlib.Core.Path.{◌≡◌, sym, ◌∙◌, ap, subst}
 use Prim.Native.Nat.{ℕ, suc, ◌+◌, ◌-◌, ◌*◌, ◌≤◌, ◌<◌}
 use native.Mathlib.Omega.{arith}
 use borrow.Author.Tests.{eq-eqb, ne_eqb}
@@ -16,7 +16,7 @@ use Rattle.laws.proofs.Cases.{cases, bool}
 use Rattle.laws.proofs.Lists.{all_map, from_all}
 use Rattle.laws.proofs.Gathering.{gather_same}
 use Rattle.network.specs.Network.{Network, network}
-use Rattle.network.specs.declared.Answer.{Answer}
+use Rattle.network.specs.Numbers.{Answer}
 use Rattle.network.specs.Numbers.{Untouched}
 use Rattle.network.proofs.Checks.{sized}
 use Rattle.tree.specs.Returns.{backb}
@@ -44,14 +44,14 @@ module _ (net : Network) (c : List ℕ) (p : Proper (tree_in net) (at c)) where
       (gather_same (side_digits (has_side c) (at c)) (side_digits (backb (tree_in net)) (at c)) (upto net.lines)
       (all_map _ _ (upto net.lines) (λ k h. rw (sided k (omega (arith, h)))) (from_all 0 net.lines)))
 
--- After some turns: the choice at hand is proper, and what was put lacks only a text of the choices from it on.
-pub record Stepping (net : Network) (first old : List ℕ) (place : ℕ) (c out : List ℕ) (to left : ℕ) : Type 0 where
+-- After some turns of the 64: the choice at hand is proper, and what was put lacks only a text of the choices from it on.
+pub record Stepping (net : Network) (first old : List ℕ) (place : ℕ) (c out : List ℕ) (to turns : ℕ) : Type 0 where
   pub text : List ℕ
   pub so_far : Put old place text to out
-  pub room : length text + left * 4097 ≤ 262208
+  pub room : length text + (64 - turns) * 4097 ≤ 262208
   pub long : length c ≡ net.lines
   pub proper : Proper (tree_in net) (at c)
-  pub rest : (t : List ℕ) → ChoiceLines net left c t → ChoiceLines net 64 first (text ++ t)
+  pub rest : (t : List ℕ) → ChoiceLines net (64 - turns) c t → ChoiceLines net 64 first (text ++ t)
 
 module _ (n : ℕ) (ends first old : List ℕ) (w : Listable n ends first old) (place : ℕ) (low : place ≤ 11) where
   abbrev net : Network
@@ -60,37 +60,20 @@ module _ (n : ℕ) (ends first old : List ℕ) (w : Listable n ends first old) (
   few_lines : net.lines ≤ 2048
   few_lines = omega (arith, (sized n (length ends) w.showable.accepted.sized).2)
 
-  pub stepping_none : Stepping net first old place first old place 64
-  stepping_none =
-      record {
-        text = [];
-        so_far = record { after = omega arith; put = refl };
-        room = omega arith;
-        long = w.showable.long;
-        proper = w.proper;
-        rest = λ t x. x;
-      }
-
-  module _ (c out : List ℕ) (to left : ℕ) (s : Stepping net first old place c out to left) where
+  module _ (c out : List ℕ) (to turns : ℕ) (s : Stepping net first old place c out to turns) where
     out_long : length out ≡ 262222
     out_long = ap length s.so_far.put ∙ length-sets old place s.text ∙ w.showable.roomy
 
-    pub line_fits : 0 < left → to + 2 * length c + 1 ≤ length out
+    pub line_fits : turns < 64 → to + 2 * length c + 1 ≤ length out
     line_fits h = omega (arith, out_long, s.so_far.after, s.room, s.long, few_lines)
 
     pub answer_fits : to + 3 ≤ length out
     answer_fits = omega (arith, out_long, s.so_far.after, s.room)
 
-    pub choice_long : length c ≡ length first
-    choice_long = s.long ∙ sym w.showable.long
-
-    pub stepped_long : (r : ℕ) (new : List ℕ) → Put out to (answer_line 0) r new → length new ≡ length old
-    stepped_long r new q = ap length q.put ∙ length-sets out to (answer_line 0) ∙ out_long ∙ sym w.showable.roomy
-
     -- the end: no choice more
-    pub no_more : left ≤ 0 → (r : ℕ) (new : List ℕ) → Put out to (answer_line 0) r new → PutChoices n ends first old place r new
+    pub no_more : 64 ≤ turns → (r : ℕ) (new : List ℕ) → Put out to (answer_line 0) r new → PutChoices n ends first old place r new
     no_more h r new q =
-        let z : left ≡ 0 = omega arith in
+        let z : 64 - turns ≡ 0 = omega arith in
         let all = put_more old place s.text to out s.so_far (answer_line 0) r new q.after q.put in
         record {
           text = s.text ++ answer_line 0;
@@ -100,7 +83,7 @@ module _ (n : ℕ) (ends first old : List ℕ) (w : Listable n ends first old) (
         }
 
     -- a turn: the line of the choice at hand is put, and next choice is asked
-    module _ (more : 0 < left) (r : ℕ) (mid : List ℕ) (q : Put out to (choice_line (has_side c) (length c) (at c)) r mid) (answer : Answer) (d : List ℕ) (x : NextChoice n ends c answer d) where
+    module _ (more : turns < 64) (r : ℕ) (mid : List ℕ) (q : Put out to (choice_line (has_side c) (length c) (at c)) r mid) (answer : Answer) (d : List ℕ) (x : NextChoice n ends c answer d) where
       abbrev line : List ℕ
       line = choice_line (backb (tree_in net)) net.lines (at c)
 
@@ -128,12 +111,12 @@ module _ (n : ℕ) (ends first old : List ℕ) (w : Listable n ends first old) (
           go (inl (_, inr (e, y))) = inr (ap (λ (z : Answer). z.number) y.answers, ap length y.same ∙ s.long, e)
           go (inr (e, y)) = absurd (e s.proper)
 
-      pub stepping_more : answer.number ≡ 0 → Stepping net first old place d mid r (left - 1)
+      pub stepping_more : answer.number ≡ 0 → Stepping net first old place d mid r (turns + 1)
       stepping_more z = go outcome
         where
-          go : Outcome → Stepping net first old place d mid r (left - 1)
+          go : Outcome → Stepping net first old place d mid r (turns + 1)
           go (inl (_, l, y)) =
-              let one : suc (left - 1) ≡ left = omega arith in
+              let one : suc (64 - (turns + 1)) ≡ 64 - turns = omega arith in
               record {
                 text = s.text ++ line;
                 so_far = put_line;
@@ -149,24 +132,15 @@ module _ (n : ℕ) (ends first old : List ℕ) (w : Listable n ends first old) (
       pub last_fits : r + 3 ≤ length mid
       last_fits = omega (arith, mid_long, put_line.after, length-append s.text line, line_few, s.room)
 
-      pub moved_long : length d ≡ length first
-      moved_long = cases outcome (λ y. y.1 ∙ sym w.showable.long) (λ y. y.1 ∙ sym w.showable.long)
-
-      pub small_number : answer.number < 256
-      small_number = cases outcome (λ y. omega (arith, y.0)) (λ y. omega (arith, y.0))
-
-      pub ended_long : (to' : ℕ) (new : List ℕ) → Put mid r (answer_line answer.number) to' new → length new ≡ length old
-      ended_long to' new y = ap length y.put ∙ length-sets mid r (answer_line answer.number) ∙ mid_long ∙ sym w.showable.roomy
-
-      pub ended : (answer.number ≡ 0 → ⊥) → (to' : ℕ) (new : List ℕ) → Put mid r (answer_line answer.number) to' new → PutChoices n ends first old place to' new
-      ended z to' new y = go outcome
+      pub ended : (k : ℕ) → answer.number ≡ k → (k ≡ 0 → ⊥) → (to' : ℕ) (new : List ℕ) → Put mid r (answer_line k) to' new → PutChoices n ends first old place to' new
+      ended k is z to' new y = go outcome
         where
           go : Outcome → PutChoices n ends first old place to' new
-          go (inl (e, _, _)) = absurd (z e)
+          go (inl (e, _, _)) = absurd (z (sym is ∙ e))
           go (inr (e, _, none_later)) =
-              let one : suc (left - 1) ≡ left = omega arith in
+              let one : suc (64 - (turns + 1)) ≡ 64 - turns = omega arith in
               let text = (s.text ++ line) ++ answer_line 9 in
-              let y' : Put mid r (answer_line 9) to' new = subst (λ k. Put mid r (answer_line k) to' new) e y in
+              let y' : Put mid r (answer_line 9) to' new = subst (λ k. Put mid r (answer_line k) to' new) (sym is ∙ e) y in
               let all = put_more old place (s.text ++ line) r mid put_line (answer_line 9) to' new y'.after y'.put in
               record {
                 text = text;

@@ -1,10 +1,11 @@
 // The page that is printed of a text.
-ghost use Rattle.std.specs.Prelude.{◌≡◌, ◌+◌, ◌≤◌, length};
+ghost use Rattle.std.specs.Prelude.{◌≡◌, ◌≤◌, length};
 ghost use Rattle.network.specs.Network.{network};
 ghost use Rattle.listing.specs.Page.{Prints, Shows, Sheet};
 ghost use Rattle.listing.specs.Inside.{Showable, Listable, Sheetable, Paged, PutChoices};
 
 use crate::pieces;
+use network::Refusal;
 
 // Puts the page of an input at the beginning of a buffer, and answers how many bytes it has.
 pub(crate) fn print(input: &[u8], out: &mut [u8]) -> usize
@@ -12,18 +13,16 @@ pub(crate) fn print(input: &[u8], out: &mut [u8]) -> usize
     ensures { Paged (Prints input.now) result out.new }
 {
     if input.len() > 18450 {
-        return pieces::put_answer(out, 0, 1);
+        return pieces::put_refusal(out, 0, Refusal::Formless);
     }
     let mut ends = [0u16; 4096];
-    let read = text::read(input, &mut ends);
-    let number = read.number;
-    if number != 0 {
-        return pieces::put_answer(out, 0, number);
+    match text::read(input, &mut ends) {
+        Ok((vertices, lines)) => {
+            let mut sides = [0u8; 2048];
+            show(vertices, &ends[..2 * lines], &mut sides[..lines], out)
+        }
+        Err(refusal) => pieces::put_refusal(out, 0, refusal),
     }
-    let vertices = read.count;
-    let lines = read.second;
-    let mut sides = [0u8; 2048];
-    show(vertices, &ends[..2 * lines], &mut sides[..lines], out)
 }
 
 // The page of a network that read accepts; room for a choice is lent, with a byte a line.
@@ -33,14 +32,11 @@ fn show(vertices: usize, ends: &[u16], choice: &mut [u8], out: &mut [u8]) -> usi
 {
     let mut ring_lines = [0u16; 2048];
     let mut ring_kinds = [0u8; 2048];
-    let first = choice::first(vertices, ends, choice, &mut ring_lines, &mut ring_kinds);
-    let number = first.number;
-    let back = first.count;
-    let size = first.second;
-    if number != 0 {
-        return pieces::put_ring(out, size, &ring_lines, &ring_kinds);
+    match choice::first(vertices, ends, choice, &mut ring_lines, &mut ring_kinds) {
+        Ok(back) => list(vertices, ends, choice, back, out),
+        Err(Refusal::Ringed(size)) => pieces::put_ring(out, size, &ring_lines, &ring_kinds),
+        Err(refusal) => pieces::put_refusal(out, 0, refusal),
     }
-    list(vertices, ends, choice, back, out)
 }
 
 // The page of a first choice.
@@ -51,14 +47,13 @@ fn list(vertices: usize, ends: &[u16], choice: &mut [u8], back: usize, out: &mut
     let mut order = [0u16; 4096];
     let mut mesh = [0u16; 4096];
     let mut sizes = [0u16; 4097];
-    let drawn = drawing::draw(vertices, ends, choice, &mut order, &mut mesh, &mut sizes);
-    let number = drawn.number;
-    let meshes = drawn.count;
-    if number != 0 {
-        return pieces::put_answer(out, 0, number);
+    match drawing::draw(vertices, ends, choice, &mut order, &mut mesh, &mut sizes) {
+        Ok(meshes) => {
+            let at = pieces::put_counts(out, meshes, back);
+            put_choices(vertices, ends, choice, out, at)
+        }
+        Err(refusal) => pieces::put_refusal(out, 0, refusal),
     }
-    let at = pieces::put_counts(out, meshes, back);
-    put_choices(vertices, ends, choice, out, at)
 }
 
 // The choices from the lent one on, 64 at the most, and the answer of the last next call.
@@ -74,15 +69,11 @@ fn put_choices(
     ensures { PutChoices vertices ends.now choice.old out.old place result out.new }
 {
     let mut to = place;
-    let mut left = 64usize;
-    while left > 0 {
+    for _ in 0..64usize {
         to = pieces::put_choice(out, to, choice);
-        let next = choice::next(vertices, ends, choice);
-        let number = next.number;
-        if number != 0 {
-            return pieces::put_answer(out, to, number);
+        if let Err(refusal) = choice::next(vertices, ends, choice) {
+            return pieces::put_refusal(out, to, refusal);
         }
-        left -= 1;
     }
     pieces::put_answer(out, to, 0)
 }

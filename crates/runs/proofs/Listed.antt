@@ -15,7 +15,7 @@ use Rattle.laws.specs.Dictionary.{Last, Listed, Listing}
 use Rattle.laws.proofs.Cases.{cases, bool, lt_or}
 use Rattle.laws.proofs.Dictionary.{before_same}
 use Rattle.network.specs.Network.{network}
-use Rattle.network.specs.declared.Answer.{Answer}
+use Rattle.network.specs.Numbers.{Answer}
 use Rattle.network.specs.Numbers.{Accepted}
 use Rattle.tree.specs.Tree.{Tree}
 use Rattle.tree.specs.Returns.{backb}

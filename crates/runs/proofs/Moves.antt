@@ -9,7 +9,7 @@ use Rattle.laws.specs.Checks.{Check}
 use Rattle.laws.specs.Lists.{at}
 use Rattle.laws.proofs.Dictionary.{next_moves}
 use Rattle.network.specs.Network.{network}
-use Rattle.network.specs.declared.Answer.{Answer}
+use Rattle.network.specs.Numbers.{Answer}
 use Rattle.network.specs.Numbers.{Untouched, Accepted}
 use Rattle.search.specs.Machine.{tree_in}
 use Rattle.choice.specs.Choice.{Proper, Outdone}

@@ -15,7 +15,7 @@ use Rattle.laws.proofs.Counting.{count_split}
 use Rattle.laws.proofs.Orbits.{count_below}
 use Rattle.network.specs.Network.{network}
 use Rattle.network.specs.Numbers.{refused, done, Accepted}
-use Rattle.network.specs.declared.Answer.{Answer}
+use Rattle.network.specs.Numbers.{Answer}
 use Rattle.tree.specs.Tree.{Tree}
 use Rattle.tree.specs.Words.{BackLine}
 use Rattle.search.specs.Machine.{tree_in}

@@ -6,7 +6,7 @@ use lib.ListN.{length}
 use Rattle.laws.specs.Checks.{Check}
 use Rattle.laws.specs.Lists.{at}
 use Rattle.network.specs.Network.{network}
-use Rattle.network.specs.declared.Answer.{Answer}
+use Rattle.network.specs.Numbers.{Answer}
 use Rattle.network.specs.Numbers.{Untouched, triple, Accepted}
 use Rattle.search.specs.Machine.{tree_in}
 use Rattle.choice.specs.Choice.{Drawable, Proper, Outdone}

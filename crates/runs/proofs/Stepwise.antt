@@ -14,7 +14,7 @@ use Rattle.laws.proofs.Tests.{either_neither}
 use Rattle.laws.proofs.Dictionary.{agree_sym, before_same, first_agree}
 use Rattle.network.specs.Network.{network}
 use Rattle.network.specs.Numbers.{refused, done, Untouched, triple, Accepted}
-use Rattle.network.specs.declared.Answer.{Answer}
+use Rattle.network.specs.Numbers.{Answer}
 use Rattle.tree.specs.Tree.{Tree}
 use Rattle.search.specs.Machine.{tree_in}
 use Rattle.search.specs.Orient.{back_lines}

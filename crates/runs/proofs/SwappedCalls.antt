@@ -21,7 +21,7 @@ use Rattle.network.specs.Network.{network, network_of, first, second, joins, Con
 use Rattle.network.specs.Numbers.{done, oversize, odd, astray, looped, doubled, mispaired, Checked, Untouched, pair, triple}
 use Rattle.network.specs.Inside.{Fit}
 use Rattle.network.specs.Marks.{back}
-use Rattle.network.specs.declared.Answer.{Answer}
+use Rattle.network.specs.Numbers.{Answer}
 use Rattle.network.proofs.Checks.{even}
 use Rattle.network.proofs.Pairs.{loop_yes}
 use Rattle.network.proofs.Lines.{joins_turn}

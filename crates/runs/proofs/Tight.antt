@@ -11,7 +11,7 @@ use Rattle.laws.proofs.Cases.{cases, lt_or}
 use Rattle.laws.proofs.Checks.{check_once}
 use Rattle.laws.proofs.Dictionary.{first_once, next_once}
 use Rattle.network.specs.Network.{Network, network}
-use Rattle.network.specs.declared.Answer.{Answer}
+use Rattle.network.specs.Numbers.{Answer}
 use Rattle.network.specs.Numbers.{Untouched, triple}
 use Rattle.network.proofs.Sifting.{checked_once, untouched_once, three_untouched_once}
 use Rattle.search.specs.Machine.{tree_in}

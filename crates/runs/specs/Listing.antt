@@ -3,7 +3,7 @@ use Rattle.std.specs.Prelude.{List, ◌≡◌, ℕ, suc, ◌/◌, ◌≤◌, ◌
 use Rattle.laws.specs.Lists.{at, Agree}
 use Rattle.laws.specs.Dictionary.{Before}
 use Rattle.network.specs.Network.{network}
-use Rattle.network.specs.declared.Answer.{Answer}
+use Rattle.network.specs.Numbers.{Answer}
 use Rattle.search.specs.Machine.{tree_in}
 use Rattle.choice.specs.Choice.{Proper}
 use Rattle.choice.specs.Calls.{FirstChoice, NextChoice}

@@ -24,7 +24,7 @@ use Rattle.laws.proofs.Dictionary.{first_once, next_list}
 use Rattle.network.specs.Network.{Network, network, Connected}
 use Rattle.network.specs.Inside.{Fit}
 use Rattle.network.specs.Numbers.{refused, done, Checked, Untouched, pair, triple}
-use Rattle.network.specs.declared.Answer.{Answer}
+use Rattle.network.specs.Numbers.{Answer}
 use Rattle.network.proofs.Sifting.{checked_once, checked_elim}
 use Rattle.network.specs.Marks.{tree, back}
 use Rattle.tree.specs.Tree.{Tree}

@@ -12,7 +12,7 @@ use Rattle.laws.proofs.Cases.{true_false}
 use Rattle.laws.proofs.Tests.{either_no}
 use Rattle.network.specs.Network.{Network, network}
 use Rattle.network.specs.Numbers.{done, Checked, Untouched, pair, triple}
-use Rattle.network.specs.declared.Answer.{Answer}
+use Rattle.network.specs.Numbers.{Answer}
 use Rattle.network.proofs.Sifting.{checked_once}
 use Rattle.search.specs.Machine.{tree_in}
 use Rattle.search.specs.Orient.{cramped, Oriented}

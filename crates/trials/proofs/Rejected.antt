@@ -13,7 +13,7 @@ use Rattle.laws.proofs.Cases.{cases, lt_or}
 use Rattle.laws.proofs.Tests.{both_of, all_of}
 use Rattle.network.specs.Network.{network, touches, other}
 use Rattle.network.specs.Numbers.{refused, done, astray}
-use Rattle.network.specs.declared.Answer.{Answer}
+use Rattle.network.specs.Numbers.{Answer}
 use Rattle.network.proofs.Checks.{none_astray}
 use Rattle.tree.specs.Tree.{higher, lower, climb, aboveb}
 use Rattle.search.specs.Machine.{tree_in, free, lowest_free, take_line, leave, go, step, run, start, finished}

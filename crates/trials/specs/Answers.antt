@@ -6,7 +6,7 @@ use Prim.Native.String.{String}
 use Rattle.laws.specs.Lists.{keep, upto, filled, at}
 use Rattle.network.specs.Network.{network}
 use Rattle.network.specs.Numbers.{refused, done}
-use Rattle.network.specs.declared.Answer.{Answer}
+use Rattle.network.specs.Numbers.{Answer}
 use Rattle.network.specs.Marks.{back}
 use Rattle.search.specs.Machine.{tree_in}
 use Rattle.search.specs.Orient.{back_lines, cramped, Orient}

@@ -1,21 +1,24 @@
 -- `put_ring` goes over the steps: each adds its line.
-use Rattle.listing.proofs.Putting.{size_fits, size_small, ringing_none, step_fits, ringing_step, ring_put, ring_long}
+use lib.ListN.{take}
+use Rattle.std.proofs.lemmas.List.{length_push}
+use Rattle.std.proofs.lemmas.Slice.Zip.{zip_turn, zip_end}
+use Rattle.listing.proofs.Putting.{ringing_none, step_fits, ringing_step, ring_put}
 use Rattle.listing.proofs.pieces.put_ring.Goals as goal
 
-pub put_size-to-requires : goal.put_size-to-requires
-put_size-to-requires c = search (size_fits, size_small)
-
-pub loop-i-init : goal.loop-i-init
-loop-i-init c = ringing_none _ _ _ _ c.requires _ _ c.put_size-to.ensures
+pub loop-line-init : goal.loop-line-init
+loop-line-init c = ringing_none _ _ _ _ c.requires _ _ c.put_size-to.ensures
 
 pub put_step-to-requires : goal.put_step-to-requires
-put_step-to-requires c = step_fits _ _ _ _ c.requires _ _ c.put_size-to.ensures _ _ _ c.loop-i.invariant c.loop-i-test.true
+put_step-to-requires c =
+    let turn = zip_turn (take c.args.size c.args.lines.now) (take c.args.size c.args.kinds.now) c.loop-line.yielded _ _ c.next.new.self _ (cc) (cc) c.loop-line.yielded_by _ c.in-Some.is c.next.ensures.steps in
+    step_fits _ _ _ _ c.requires _ _ c.put_size-to.ensures _ _ _ c.loop-line.invariant _ _ turn
 
-pub loop-i-preserved : goal.loop-i-preserved
-loop-i-preserved c = ringing_step _ _ _ _ c.requires _ _ c.put_size-to.ensures _ _ _ c.loop-i.invariant c.loop-i-test.true _ _ c.put_step-to.ensures
-
-pub shape_of-out : goal.shape_of-out
-shape_of-out c = ring_long _ _ _ _ c.requires _ _ c.put_size-to.ensures _ _ _ c.loop-i.invariant
+pub loop-line-preserved : goal.loop-line-preserved
+loop-line-preserved c =
+    let turn = zip_turn (take c.args.size c.args.lines.now) (take c.args.size c.args.kinds.now) c.loop-line.yielded _ _ c.next.new.self _ (cc) (cc) c.loop-line.yielded_by _ c.in-Some.is c.next.ensures.steps in
+    ringing_step _ _ _ _ c.requires _ _ c.put_size-to.ensures _ _ _ c.loop-line.invariant _ _ turn _ _ c.put_step-to.ensures _ (length_push c.loop-line.yielded _)
 
 pub returns : goal.returns
-returns c = ring_put _ _ _ _ c.requires _ _ c.put_size-to.ensures _ _ _ c.loop-i.invariant c.loop-i-test.false
+returns c =
+    let ended = zip_end (take c.args.size c.args.lines.now) (take c.args.size c.args.kinds.now) c.loop-line.yielded _ _ c.next.new.self _ (cc) (cc) c.loop-line.yielded_by c.in-None.is c.next.ensures.steps in
+    ring_put _ _ _ _ c.requires _ _ c.put_size-to.ensures _ _ _ c.loop-line.invariant ended

@@ -1,9 +1,6 @@
 -- `put_size` stores its two numbers and the line feed.
-use Rattle.listing.proofs.Putting.{two_long, sized}
+use Rattle.listing.proofs.Putting.{sized}
 use Rattle.listing.proofs.pieces.put_size.Goals as goal
-
-pub shape_of-out : goal.shape_of-out
-shape_of-out c = search two_long
 
 pub returns : goal.returns
 returns c = search sized
