@@ -84,10 +84,10 @@
 extern "C" {
 #endif
 
-#define CORNETARIEL_VERSION_MAJOR 1
-#define CORNETARIEL_VERSION_MINOR 1
-#define CORNETARIEL_VERSION_PATCH 2
-#define CORNETARIEL_VERSION "1.1.2"
+#define CORNETARIEL_VERSION_MAJOR 2
+#define CORNETARIEL_VERSION_MINOR 0
+#define CORNETARIEL_VERSION_PATCH 0
+#define CORNETARIEL_VERSION "2.0.0"
 
 /* A network has at least one vertex and at most these many vertices and lines. It may have no lines. */
 #define CORNETARIEL_MAX_VERTICES 512
