@@ -22,7 +22,8 @@ use Rattle.std.specs.Prelude.{Option, Some}
 use Rattle.network.specs.Marks.{absent}
 use Rattle.fork.specs.declared.Forks.{Forks}
 use Rattle.fans.specs.declared.chains.Chains.{Chains}
-use Rattle.fans.specs.Chains.{Names, ListsChained, hung}
+use Rattle.network.specs.Inside.{Names}
+use Rattle.fans.specs.Chains.{ListsChained, hung}
 use Rattle.fans.proofs.Hanging.{chained_hang}
 use Rattle.clockwise.specs.Order.{discovered}
 use Rattle.clockwise.specs.Walks.{Stem, group_of, groups_of, Collectable, OnPath, SettingOut}

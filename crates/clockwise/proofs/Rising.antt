@@ -19,7 +19,8 @@ use Rattle.std.specs.Prelude.{Option, Some}
 use Rattle.network.specs.Marks.{absent}
 use Rattle.fork.specs.declared.Forks.{Forks}
 use Rattle.fans.specs.declared.chains.Chains.{Chains}
-use Rattle.fans.specs.Chains.{Names, ListsChained}
+use Rattle.network.specs.Inside.{Names}
+use Rattle.fans.specs.Chains.{ListsChained}
 use Rattle.clockwise.specs.Order.{discovered}
 use Rattle.clockwise.specs.Walks.{groups_of, OnPath, SettingOut, WalkedBack}
 use Rattle.clockwise.proofs.Leaving.{fanned}

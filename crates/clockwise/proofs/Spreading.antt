@@ -17,7 +17,8 @@ use Rattle.laws.proofs.Lengths.{from_nil, gather_rises, gather_length}
 use Rattle.std.specs.Prelude.{Option, Some}
 use Rattle.fans.specs.declared.chains.Chains.{Chains}
 use Rattle.fans.specs.declared.rows.Row.{Row}
-use Rattle.fans.specs.Chains.{Names, list_in, Blank, Appended}
+use Rattle.network.specs.Inside.{Names}
+use Rattle.fans.specs.Chains.{list_in, Blank, Appended}
 use Rattle.fans.proofs.Hanging.{chained_short, Leads, leads, Ahead, ahead, remaining, remaining_less, appended_none, appended_join}
 use Rattle.clockwise.specs.Laying.{item_in, Besides, spread_in, Spreads, first_in, Begins, lines_at, Layable}
 

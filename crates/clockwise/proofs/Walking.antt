@@ -18,7 +18,8 @@ use Rattle.fans.specs.Fan.{fan}
 use Rattle.std.specs.Prelude.{Option, None, Some}
 use Rattle.fork.specs.declared.Forks.{Forks}
 use Rattle.fans.specs.declared.chains.Chains.{Chains}
-use Rattle.fans.specs.Chains.{Names, ListsChained}
+use Rattle.network.specs.Inside.{Names}
+use Rattle.fans.specs.Chains.{ListsChained}
 use Rattle.fans.proofs.Hanging.{chained_short, Leads, leads, Ahead, ahead, remaining, remaining_less}
 use Rattle.clockwise.specs.Order.{discovered}
 use Rattle.clockwise.specs.Walks.{Fanned, Over, groups_of, SettingOut, WalkedBack}

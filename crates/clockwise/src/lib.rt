@@ -15,9 +15,10 @@ ghost use Rattle.clockwise.specs.Laying.{item_in, Besides, spread_in, Spreads, f
 ghost use Rattle.clockwise.specs.Order.{order_at};
 ghost use Rattle.clockwise.specs.Ordering.{Orderable};
 
-use fans::chains::{Chains, named};
+use fans::chains::Chains;
 use fans::rows::Row;
 use fork::Forks;
+use network::named;
 use side::Side;
 
 // The order of the lines at the vertices.

@@ -4,8 +4,9 @@ ghost use Rattle.laws.specs.Lists.{at};
 ghost use Rattle.fans.specs.Chains.{hung};
 ghost use Rattle.clockwise.specs.Walks.{SomeWalk, EachWalk, Collectable, SettingOut, WalkedBack};
 
-use fans::chains::{Chains, named};
+use fans::chains::Chains;
 use fork::Forks;
+use network::named;
 
 // Walks up from v, which stands at the height. Each back line goes to the front of its group when it is discovered. `path` has the vertices on the way to
 // v, each at the place of the height below it.

@@ -26,8 +26,8 @@ use fork::Forks;
 use groups::Groups;
 use links::Tear;
 use meeting::{Kept, Pairs, keep, meet};
-use network::Absent;
 use network::chains::Chains;
+use network::{Absent, named};
 use side::Wants;
 use spans::Jumps;
 
@@ -136,14 +136,13 @@ fn pass(
     ensures { Outcome S groups.old groups.new
         (Passed S b x v jumps.old jumps.new pairs.new forks.new groups.new) result }
 {
-    let held = jumps.held[v];
-    if held == Absent::ENTRY {
+    let Some(held) = named(jumps.held[v]) else {
         return crown(b, x, v, parents, jumps, pairs, forks, groups);
-    }
+    };
     if x <= jumps.least[v] {
         return Ok(());
     }
-    links::take(b, held as usize, Wants::Same, groups)
+    links::take(b, held, Wants::Same, groups)
 }
 
 // It is the first to pass the line up to v, and so the top of that line, which meets its fork.

@@ -5,7 +5,7 @@ ghost use Rattle.tree.specs.Tree.{Tree};
 ghost use Rattle.lows.specs.Inside.{Bottomed, Plumbed, Comparable, Compared, Weighable, Weighed};
 
 use fork::Forks;
-use network::Absent;
+use network::named;
 use spans::{Jumps, choose};
 
 // The low of each tree line: where its bottom ends, or where it has none, the height of the vertex that it leaves. (A back line has its own already.)
@@ -24,10 +24,10 @@ pub fn measure(
         let height = heights[v];
         if 0 < height {
             let f = parents[v] as usize;
-            if bottoms[v] == Absent::ENTRY {
-                forks.low[f] = height - 1;
+            if let Some(b) = named(bottoms[v]) {
+                forks.low[f] = forks.stop[b];
             } else {
-                forks.low[f] = forks.stop[bottoms[v] as usize];
+                forks.low[f] = height - 1;
             }
         }
     }

@@ -3,3 +3,4 @@ pub mod Pairs
 pub mod Lines
 pub mod Sifting
 pub mod Refusing
+pub mod Naming

@@ -1,6 +1,12 @@
 -- What functions inside ask of each other. A reader of the calls' statements need not believe any of it.
-use Rattle.std.specs.Prelude.{List, ◌≡◌, ℕ, ◌*◌, ◌/◌, ◌≤◌, ◌<◌, get_or, length}
+use Rattle.std.specs.Prelude.{Option, None, Some, List, ◌≡◌, ℕ, ◌*◌, ◌/◌, ◌≤◌, ◌<◌, get_or, length}
+use Rattle.network.specs.Marks.{absent}
 use Rattle.network.specs.Network.{Network, first, second}
+
+-- What an entry names: nothing where the mark stands, and else the number that it is.
+abbrev pub Names : ℕ → Option ℕ → Type 0
+Names h None = h ≡ absent
+Names h (Some x) = (x ≡ h) × (x < absent)
 
 -- The ends come in pairs of vertex numbers, not more than the limit.
 pub record Paired (ends : List ℕ) : Type 0 where

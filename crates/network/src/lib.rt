@@ -8,7 +8,7 @@ pub mod copies;
 
 ghost use Rattle.std.specs.Prelude.{◌≡◌, ◌+◌, ◌*◌, ◌/◌, ◌<◌};
 ghost use Rattle.network.specs.Numbers.{Numbers, number_of, oversize, odd, astray, mispaired, Sifted};
-ghost use Rattle.network.specs.Inside.{Paired};
+ghost use Rattle.network.specs.Inside.{Names, Paired};
 
 // The most vertices, and the most ends (two to a line), that a network may have.
 pub const VERTICES: usize = 512;
@@ -27,12 +27,23 @@ impl Kind {
     pub const UNUSED: u8 = 3;
 }
 
-// What a table has where there is nothing. (A mark and no Option: memory is fixed, and a table of Options is twice as long. A function answers an Option.)
+// What a table has where there is nothing. (A mark and no Option: memory is fixed, and a table of Options is twice as long.)
 #[derive(Drop)]
 pub struct Absent {}
 
 impl Absent {
     pub const ENTRY: u16 = 65535;
+}
+
+// What an entry of a table names: nothing where the mark stands.
+pub fn named(entry: u16) -> Option<usize>
+    ensures { Names entry result }
+{
+    if entry == Absent::ENTRY {
+        None
+    } else {
+        Some(entry as usize)
+    }
 }
 
 // Why a call did not do its work: each with its number in the rules (`refusal_number`, specs/Numbers.antt).

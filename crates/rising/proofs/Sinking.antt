@@ -40,8 +40,8 @@ module _ {S : Tree} {b : ℕ} {heights : List ℕ} {jumps : Jumps} {forks : Fork
     sink_end h = record { stop = v; way = w; why = inl (refl, omega (arith, height_is, stop_is)) }
 
     module _ (high : at forks.stop b + 1 < at heights v) where
-      pub sink_met : (at bottoms' v ≡ absent → ⊥) → Sunk S b bottoms bottoms' (at bottoms' v)
-      sink_met d = record { stop = v; way = w; why = inr (here, d, omega (arith, height_is, stop_is)) }
+      pub sink_met : {c : ℕ} → (c ≡ at bottoms' v) × (c < absent) → Sunk S b bottoms bottoms' c
+      sink_met n = record { stop = v; way = w; why = inr (n.0 ∙ here, λ e. absurd (omega (arith, n.1)), omega (arith, height_is, stop_is)) }
 
       way : TreeLine S (S.parent v) × (S.height v ≡ suc (S.height (S.source (S.parent v)))) × Return S (S.parent v) b
       way = way_return S X b s.back_line v w.inside w.on_way (omega (arith, stop_is, height_is))

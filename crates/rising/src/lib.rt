@@ -15,8 +15,8 @@ ghost use Rattle.rising.specs.Inside.{Rising, Risen, Raised, Sinkable, Sunk, mar
 use fork::Forks;
 use groups::Groups;
 use links::Tear;
-use network::Absent;
 use network::chains::Chains;
+use network::named;
 use side::Wants;
 use spans::Jumps;
 
@@ -87,8 +87,8 @@ fn sink(
     let limit = forks.stop[b] + 1;
     let mut v = forks.source[b] as usize;
     while limit < heights[v] {
-        if bottoms[v] != Absent::ENTRY {
-            return Some(bottoms[v] as usize);
+        if let Some(c) = named(bottoms[v]) {
+            return Some(c);
         }
         bottoms[v] = b as u16;
         v = jumps.onward[v] as usize;
