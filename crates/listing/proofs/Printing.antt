@@ -21,11 +21,12 @@ use Rattle.text.proofs.TextBack.{length_ends_in}
 use Rattle.text.proofs.Accepted.{take_filled, not_odd, Sound, sound_inside, Accepts, Took, read_done}
 use Rattle.listing.specs.Page.{answer_line, Shows, Prints}
 use Rattle.listing.specs.Inside.{Put, Showable, Paged}
+use Rattle.listing.specs.declared.pieces.Page.{Page}
 use Rattle.listing.proofs.Putting.{answer_long}
 use Rattle.listing.proofs.Showing.{blank, paged}
 
-pub long_page : (input out : List ℕ) → length out ≡ 262222 → 18450 < length input → (to : ℕ) (new : List ℕ) → Put out 0 (answer_line 1) to new → Paged (Prints input) to new
-long_page input out roomy h to new q = paged (Prints input) out (answer_line 1) to new q (omega (arith, answer_long 1)) (inl (lt-ltb 18450 (length input) h, refl))
+pub long_page : (input out : List ℕ) → length out ≡ 262222 → 18450 < length input → {page : Page} → Put out 0 (answer_line 1) page.count page.bytes → Paged (Prints input) page
+long_page input out roomy h {page = page} q = paged (Prints input) out (answer_line 1) page q roomy (omega (arith, answer_long 1)) (inl (lt-ltb 18450 (length input) h, refl))
 
 -- the buffer for a choice, before anything is written
 abbrev blank_sides : List ℕ
@@ -72,9 +73,9 @@ module _ (input ends : List ℕ) (long : length ends ≡ 4096) (short : length i
             ),
           )
 
-  pub refused_input : (k : ℕ) → r.number ≡ k → (k ≡ 0 → ⊥) → (out : List ℕ) → length out ≡ 262222 → (to : ℕ) (new : List ℕ) → Put out 0 (answer_line k) to new → Paged (Prints input) to new
-  refused_input k is z out roomy to new q =
-      paged (Prints input) out (answer_line k) to new q (omega (arith, answer_long k))
+  pub refused_input : (k : ℕ) → r.number ≡ k → (k ≡ 0 → ⊥) → (out : List ℕ) → length out ≡ 262222 → {page : Page} → Put out 0 (answer_line k) page.count page.bytes → Paged (Prints input) page
+  refused_input k is z out roomy {page = page} q =
+      paged (Prints input) out (answer_line k) page q roomy (omega (arith, answer_long k))
       (subst (λ j. Prints input (answer_line j)) is (says (λ e. z (sym is ∙ e))))
 
   -- Taken
@@ -126,10 +127,11 @@ module _ (input ends : List ℕ) (long : length ends ≡ 4096) (short : length i
     showable out roomy =
         rw (count_is, ends_are) (record { accepted = accepted; long = omega (arith, sides_long, length_ends_in input, lines_are); roomy = roomy })
 
-    pub shown_page : (to : ℕ) (new : List ℕ) → Paged (Shows (network r.count (take (2 * r.second) ends'))) to new → Paged (Prints input) to new
-    shown_page to new q =
-        let page : Shows (network n (ends_in input)) (take to new) = rw (count_is, ends_are) at q.allowed in
+    pub shown_page : {page : Page} → Paged (Shows (network r.count (take (2 * r.second) ends'))) page → Paged (Prints input) page
+    shown_page {page = page} q =
+        let shows : Shows (network n (ends_in input)) (take page.count page.bytes) = rw (count_is, ends_are) at q.allowed in
         record {
+          long = q.long;
           within = q.within;
           allowed =
               inr (
@@ -138,8 +140,8 @@ module _ (input ends : List ℕ) (long : length ends ≡ 4096) (short : length i
                   λ f. true_false taken.0.form f,
                   inr (
                     λ t. true_false t taken.0.sized,
-                    formed_map n (ends_in input) taken.0.sound (λ k. take to new ≡ answer_line k) (Shows (network n (ends_in input)) (take to new))
-                        (λ k _ x. absurd x) (λ _. page),
+                    formed_map n (ends_in input) taken.0.sound (λ k. take page.count page.bytes ≡ answer_line k) (Shows (network n (ends_in input)) (take page.count page.bytes))
+                        (λ k _ x. absurd x) (λ _. shows),
                   ),
                 ),
               );

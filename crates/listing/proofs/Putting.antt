@@ -1,7 +1,7 @@
 -- Pieces put one after the other are one piece put: what each function of pieces.rt leaves, by the law of two pieces (`join`).
 use mathlib.Core.Bool.{false}
 use mathlib.Core.List.{List, [], ◌∷◌, ◌++◌}
-use mathlib.Core.Path.{◌≡◌, refl, sym, ◌∙◌, ap}
+use mathlib.Core.Path.{◌≡◌, refl, sym, ◌∙◌, ap, subst}
 use Prim.Native.Nat.{ℕ, zero, suc, ◌+◌, ◌*◌, ◌≤◌, ◌<◌, min}
 use native.Mathlib.Omega.{arith}
 use borrow.Author.Tests.{ne_eqb}
@@ -17,10 +17,19 @@ use Rattle.digits.proofs.Back.{length_digits}
 use Rattle.text.proofs.Filling.{sets_append}
 use Rattle.side.specs.Sides.{none}
 use Rattle.listing.specs.Page.{answer_line, counts_line, side_digits, choice_line, size_line, step_line, ring_page}
-use Rattle.listing.specs.Inside.{Put, side_piece, has_side, Ringable}
+use Rattle.listing.specs.Inside.{Put, Roomy, side_piece, has_side, Ringable}
+use Rattle.listing.specs.declared.pieces.Page.{Page}
 
 pub join : (p q l : List ℕ) (i j : ℕ) → j ≡ i + length p → sets (sets l i p) j q ≡ sets l i (p ++ q)
 join p q l i j e = rw e (sym (sets_append l i p q))
+
+-- Room behind a page, said of its parts.
+pub roomy : {more : ℕ} {p : Page} → (length p.bytes ≡ 262222) × (p.count + more ≤ 262222) → Roomy more p
+roomy h = record { long = h.0; room = h.1 }
+
+-- What was put behind a page without bytes was put at its beginning.
+pub from_start : {old p : List ℕ} {place r : ℕ} {new : List ℕ} → place ≡ 0 → Put old place p r new → Put old 0 p r new
+from_start {old = old} {p = p} {r = r} {new = new} e w = subst (λ k. Put old k p r new) e w
 
 module _ (old : List ℕ) (place : ℕ) where
   -- a piece and then another
@@ -52,18 +61,20 @@ counts_long meshes back =
       length_digits 4 back,
     )
 
-pub counted : (old : List ℕ) (meshes back : ℕ) (a b c : List ℕ) → a ≡ sets old 0 (digits 2 0) → b ≡ sets a 2 (digits 4 meshes) → c ≡ sets b 6 (digits 4 back)
-    → Put old 0 (counts_line meshes back) 11 (set c 10 10)
-counted old meshes back a b c p q r =
+pub counted : (old : List ℕ) (place meshes back : ℕ) (a b c : List ℕ) → a ≡ sets old place (digits 2 0) → b ≡ sets a (place + 2) (digits 4 meshes)
+    → c ≡ sets b (place + 6) (digits 4 back) → Put old place (counts_line meshes back) (place + 11) (set c (place + 10) 10)
+counted old place meshes back a b c p q r =
     let one = length_digits 2 0 in
     let two = length_digits 4 meshes in
     let three = length_digits 4 back in
     let line : List ℕ = 10 ∷ [] in
-    let last : set c 10 10 ≡ sets b 6 (digits 4 back ++ line) = rw r (join (digits 4 back) line b 6 10 (omega arith)) in
-    let middle : set c 10 10 ≡ sets a 2 (digits 4 meshes ++ (digits 4 back ++ line)) = last ∙ rw q (join (digits 4 meshes) (digits 4 back ++ line) a 2 6 (omega arith)) in
+    let end = set c (place + 10) 10 in
+    let last : end ≡ sets b (place + 6) (digits 4 back ++ line) = rw r (join (digits 4 back) line b (place + 6) (place + 10) (omega arith)) in
+    let middle : end ≡ sets a (place + 2) (digits 4 meshes ++ (digits 4 back ++ line)) =
+    last ∙ rw q (join (digits 4 meshes) (digits 4 back ++ line) a (place + 2) (place + 6) (omega arith)) in
     record {
       after = omega (arith, counts_long meshes back);
-      put = middle ∙ rw p (join (digits 2 0) (digits 4 meshes ++ (digits 4 back ++ line)) old 0 2 (omega arith));
+      put = middle ∙ rw p (join (digits 2 0) (digits 4 meshes ++ (digits 4 back ++ line)) old place (place + 2) (omega arith));
     }
 
 -- A choice
@@ -99,7 +110,7 @@ module _ (choice : List ℕ) where
     pub few : length (sides k) ≤ 2 * k
     pub so_far : Put old place (sides k) to out
 
-  module _ (old : List ℕ) (place : ℕ) (roomy : place + 2 * length choice + 1 ≤ length old) where
+  module _ (old : List ℕ) (place : ℕ) where
     pub putting_none : Putting old place old place 0
     unfolding gather from
     putting_none = record { within = omega arith; few = omega arith; so_far = record { after = omega arith; put = refl } }
@@ -107,6 +118,12 @@ module _ (choice : List ℕ) where
     module _ (out : List ℕ) (to k : ℕ) (w : Putting old place out to k) where
       long : length out ≡ length old
       long = rw w.so_far.put (length-sets old place (sides k))
+
+      pub putting_fits : length old ≡ 262222 → place + (2 * length choice + 1) ≤ 262222 → (length out ≡ 262222) × (to + 1 ≤ 262222) × (k < length choice → to + 2 ≤ 262222)
+      putting_fits l h =
+          let few = w.few in
+          let end = w.so_far.after in
+          (omega (arith, l, long), omega (arith, h, few, end, w.within), λ b. omega (arith, h, few, end, b))
 
       pub putting_more : k < length choice → (r : ℕ) (new : List ℕ) → Put out to (side_piece (at choice k)) r new → Putting old place new r (k + 1)
       putting_more h r new q =
@@ -120,15 +137,17 @@ module _ (choice : List ℕ) where
 
 -- A ring
 
-pub sized : (old : List ℕ) (size : ℕ) (a b : List ℕ) → a ≡ sets old 0 (digits 2 7) → b ≡ sets a 2 (digits 4 size) → Put old 0 (size_line size) 7 (set b 6 10)
-sized old size a b p q =
+pub sized : (old : List ℕ) (place size number : ℕ) (a b : List ℕ) → number ≡ 7 → a ≡ sets old place (digits 2 number) → b ≡ sets a (place + 2) (digits 4 size)
+    → Put old place (size_line size) (place + 7) (set b (place + 6) 10)
+sized old place size number a b e p' q =
+    let p : a ≡ sets old place (digits 2 7) = subst (λ k. a ≡ sets old place (digits 2 k)) e p' in
     let two = length_digits 2 7 in
     let four = length_digits 4 size in
     let line : List ℕ = 10 ∷ [] in
-    let last : set b 6 10 ≡ sets a 2 (digits 4 size ++ line) = rw q (join (digits 4 size) line a 2 6 (omega arith)) in
+    let last : set b (place + 6) 10 ≡ sets a (place + 2) (digits 4 size ++ line) = rw q (join (digits 4 size) line a (place + 2) (place + 6) (omega arith)) in
     record {
       after = omega (arith, length-append (digits 2 7) (digits 4 size ++ line), length-append (digits 4 size) line);
-      put = last ∙ rw p (join (digits 2 7) (digits 4 size ++ line) old 0 2 (omega arith));
+      put = last ∙ rw p (join (digits 2 7) (digits 4 size ++ line) old place (place + 2) (omega arith));
     }
 
 length_size : (size : ℕ) → length (size_line size) ≡ 7
@@ -164,29 +183,29 @@ module _ (size : ℕ) (line kind : List ℕ) where
   AtPlace i x y =
       (i < length (take size line)) × (i < length (take size kind)) × ((d : ℕ) → x ≡ get_or (take size line) i d) × ((d : ℕ) → y ≡ get_or (take size kind) i d)
 
-  module _ (first : List ℕ) (r : Ringable size line kind first) where
+  module _ (first : Page) (r : Ringable size line kind first) where
     lines_long : length (take size line) ≡ size
     lines_long = length-take-le size line r.lines
 
     kinds_long : length (take size kind) ≡ size
     kinds_long = length-take-le size kind r.kinds
 
-    module _ (old : List ℕ) (start : ℕ) (f : Put first 0 (size_line size) start old) where
+    module _ (old : List ℕ) (start : ℕ) (f : Put first.bytes first.count (size_line size) start old) where
       pub ringing_none : Ringing old start old start 0
       unfolding gather from
       ringing_none = record { within = omega arith; place = omega arith; so_far = record { after = omega arith; put = refl } }
 
       module _ (out : List ℕ) (to i : ℕ) (w : Ringing old start out to i) where
-        pub ring_long : length out ≡ length first
-        ring_long = ap length w.so_far.put ∙ length-sets old start (steps i) ∙ ap length f.put ∙ length-sets first 0 (size_line size)
+        pub ring_long : length out ≡ length first.bytes
+        ring_long = ap length w.so_far.put ∙ length-sets old start (steps i) ∙ ap length f.put ∙ length-sets first.bytes first.count (size_line size)
 
         -- the step's line and kind are those of the next place
         module _ (x y : ℕ) (t : AtPlace i x y) where
           here : i < size
           here = omega (arith, t.0, lines_long)
 
-          pub step_fits : to + 7 ≤ length out
-          step_fits = omega (arith, here, ring_long, r.few, r.roomy, w.place, f.after, length_size size)
+          pub step_fits : (length out ≡ 262222) × (to + 7 ≤ 262222)
+          step_fits = (ring_long ∙ r.roomy.long, omega (arith, here, r.few, r.roomy.room, w.place, f.after, length_size size))
 
           pub ringing_step : (s : ℕ) (new : List ℕ) → Put out to (step_line x y) s new → (j : ℕ) → j ≡ i + 1 → Ringing old start new s j
           ringing_step s new q j e =
@@ -197,10 +216,10 @@ module _ (size : ℕ) (line kind : List ℕ) where
               let put = put_more old start (steps i) to out w.so_far (step_line x y) s new q.after q.put in
               rw one (record { within = omega (arith, here); place = omega (arith, q.after, length_step x y, w.place); so_far = rw (gather_next step i, this) put })
 
-        pub ring_put : i ≡ min (length (take size line)) (length (take size kind)) → Put first 0 (ring_page size (at line) (at kind)) to out
+        pub ring_put : i ≡ min (length (take size line)) (length (take size kind)) → Put first.bytes first.count (ring_page size (at line) (at kind)) to out
         ring_put h =
             let e : i ≡ size = omega (arith, h, lines_long, kinds_long) in
-            let put = put_more first 0 (size_line size) start old f (steps i) to out w.so_far.after w.so_far.put in
+            let put = put_more first.bytes first.count (size_line size) start old f (steps i) to out w.so_far.after w.so_far.put in
             rw e at put
 
 module _ (line kind : ℕ → ℕ) where

@@ -28,7 +28,8 @@ use Rattle.runs.proofs.Outcomes.{first_says}
 use Rattle.drawing.specs.Draw.{Draw, cramped_draw, Balanced, Drew, meshes_in}
 use Rattle.cornetariel.proofs.Packing.{backs_few}
 use Rattle.listing.specs.Page.{answer_line, counts_line, ring_page, Sheet, Shows}
-use Rattle.listing.specs.Inside.{Put, Ringable, Showable, Sheetable, Paged, PutChoices}
+use Rattle.listing.specs.Inside.{Put, Ringable, Showable, Listable, Sheetable, Paged, PutChoices}
+use Rattle.listing.specs.declared.pieces.Page.{Page}
 use Rattle.listing.proofs.Refusing.{refusing_number, ringed_is}
 use Rattle.listing.proofs.Putting.{put_more, answer_long, counts_long, ring_page_long}
 
@@ -40,15 +41,23 @@ pub page_is : (old p : List ℕ) (r : ℕ) (new : List ℕ) → Put old 0 p r ne
 page_is old p r new w h =
     ap (take r) (w.put ∙ sets-eq p old 0 (omega arith)) ∙ take_at p (drop (0 + length p) old) r (omega (arith, w.after))
 
-pub paged : (P : List ℕ → Type 0) (old p : List ℕ) (r : ℕ) (new : List ℕ) → Put old 0 p r new → length p ≤ length old → P p → Paged P r new
-paged P old p r new w h x =
+pub paged : (P : List ℕ → Type 0) (old p : List ℕ) (q : Page) → Put old 0 p q.count q.bytes → length old ≡ 262222 → length p ≤ 262222 → P p → Paged P q
+paged P old p q w l h x =
     record {
-      within = omega (arith, w.after, ap length w.put, length-sets old 0 p);
-      allowed = subst P (sym (page_is old p r new w h)) x;
+      long = ap length w.put ∙ length-sets old 0 p ∙ l;
+      within = omega (arith, h, l, w.after, ap length w.put, length-sets old 0 p);
+      allowed = subst P (sym (page_is old p q.count q.bytes w (omega (arith, h, l)))) x;
     }
 
 pub put_long : (old : List ℕ) (place : ℕ) (p : List ℕ) (r : ℕ) (new : List ℕ) → Put old place p r new → length new ≡ length old
 put_long old place p r new w = ap length w.put ∙ length-sets old place p
+
+pub listable_on : {n : ℕ} {ends choice old p new : List ℕ} {place r : ℕ} → Listable n ends choice old → Put old place p r new → Listable n ends choice new
+listable_on {old = old} {p = p} {new = new} {place = place} {r = r} w q =
+    record {
+      showable = record { accepted = w.showable.accepted; long = w.showable.long; roomy = put_long old place p r new q ∙ w.showable.roomy };
+      proper = w.proper;
+    }
 
 -- The page of a first choice
 
@@ -90,32 +99,32 @@ module _ (n : ℕ) (ends choice : List ℕ) (back : ℕ) (out : List ℕ) (w : S
   pub few_backs : back < 65536
   few_backs = omega (arith, w.counted, backs_few net (fit n ends w.listable.showable.accepted))
 
-  pub refused_page : (k : ℕ) → r.number ≡ k → (k ≡ 0 → ⊥) → (to : ℕ) (new : List ℕ) → Put out 0 (answer_line k) to new → Paged (Sheet net choice) to new
-  refused_page k is z to new q = go outcome
+  pub refused_page : (k : ℕ) → r.number ≡ k → (k ≡ 0 → ⊥) → {page : Page} → Put out 0 (answer_line k) page.count page.bytes → Paged (Sheet net choice) page
+  refused_page k is z {page = page} q = go outcome
     where
-      go : Outcome → Paged (Sheet net choice) to new
+      go : Outcome → Paged (Sheet net choice) page
       go (inl (_, y)) = absurd (z (sym is ∙ ap (λ (x : Answer). x.number) y.answers))
       go (inr (e, y)) =
           let ten = sym is ∙ ap (λ (x : Answer). x.number) y.answers in
-          paged (Sheet net choice) out (answer_line k) to new q (omega (arith, answer_long k, w.listable.showable.roomy)) (inr (e, ap answer_line ten))
+          paged (Sheet net choice) out (answer_line k) page q w.listable.showable.roomy (omega (arith, answer_long k)) (inr (e, ap answer_line ten))
 
   -- the counts were put, and then the choices
-  module _ (z : r.number ≡ 0) (place : ℕ) (mid : List ℕ) (q : Put out 0 (counts_line r.count back) place mid) where
-    pub place_low : place ≤ 11
+  module _ (z : r.number ≡ 0) (mid : Page) (q : Put out 0 (counts_line r.count back) mid.count mid.bytes) where
+    pub place_low : mid.count ≤ 11
     place_low = omega (arith, q.after, counts_long r.count back)
 
-    pub listed_page : (to : ℕ) (new : List ℕ) → PutChoices n ends choice mid place to new → Paged (Sheet net choice) to new
-    listed_page to new p = go outcome
+    pub listed_page : {page : Page} → PutChoices n ends choice mid page → Paged (Sheet net choice) page
+    listed_page {page = page} p = go outcome
       where
-        go : Outcome → Paged (Sheet net choice) to new
+        go : Outcome → Paged (Sheet net choice) page
         go (inr (_, y)) = let e = ap (λ (x : Answer). x.number) y.answers in absurd (omega (arith, e, z))
         go (inl (e, y)) =
             let counts = counts_line r.count back in
-            let all = put_more out 0 counts place mid q p.text to new p.put.after p.put.put in
+            let all = put_more out 0 counts mid.count mid.bytes q p.text page.count page.bytes p.put.after p.put.put in
             let meshes : r.count ≡ meshes_in net choice = ap (λ (x : Answer). x.count) y.answers in
             let same : counts ++ p.text ≡ counts_line (meshes_in net choice) (back_lines net) ++ p.text = rw (meshes, w.counted) in
-            paged (Sheet net choice) out (counts ++ p.text) to new all
-            (omega (arith, p.fits, put_long out 0 counts place mid q, q.after, length-append counts p.text))
+            paged (Sheet net choice) out (counts ++ p.text) page all w.listable.showable.roomy
+            (omega (arith, w.listable.showable.roomy, p.fits, put_long out 0 counts mid.count mid.bytes q, q.after, length-append counts p.text))
             (inl (e, (p.text, p.choices, same)))
 
 -- The page of a network
@@ -134,29 +143,29 @@ module _ (n : ℕ) (ends choice out : List ℕ) (w : Showable n ends choice out)
   said : Said
   said = first_says n ends w.accepted choice lines kinds (omega (arith, w.long)) (omega (arith, lines_few)) (omega (arith, lines_few)) r choice' lines' kinds' f
 
-  pub ringable : (r.number ≡ 0 → ⊥) → Ringable r.second lines' kinds' out
-  ringable z = go said
+  ring_fits : (r.number ≡ 0 → ⊥) → (r.second ≤ length lines') × (r.second ≤ length kinds') × (r.second ≤ 2048)
+  ring_fits z = go said
     where
-      go : Said → Ringable r.second lines' kinds' out
+      go : Said → (r.second ≤ length lines') × (r.second ≤ length kinds') × (r.second ≤ 2048)
       go (inl (_, y)) = absurd (z (ap (λ (x : Answer). x.number) y.answers))
       go (inr (_, y)) =
           let e = ap (λ (x : Answer). x.second) y.answers in
-          record {
-            lines = omega (arith, e, y.few, lines_few, y.lines_rest.long);
-            kinds = omega (arith, e, y.few, lines_few, y.kinds_rest.long);
-            few = omega (arith, e, y.few, lines_few);
-            roomy = omega (arith, w.roomy);
-          }
+          (omega (arith, e, y.few, lines_few, y.lines_rest.long), omega (arith, e, y.few, lines_few, y.kinds_rest.long), omega (arith, e, y.few, lines_few))
 
-  pub ring_shown : (z : r.number ≡ 0 → ⊥) (to : ℕ) (new : List ℕ) → Put out 0 (ring_page r.second (at lines') (at kinds')) to new → Paged (Shows the_net) to new
-  ring_shown z to new q = go said
+  pub ringable : (r.number ≡ 0 → ⊥) → {page : Page} → length page.bytes ≡ 262222 → page.count ≡ 0 → Ringable r.second lines' kinds' page
+  ringable z l e =
+      let fits = ring_fits z in
+      record { lines = fits.0; kinds = fits.1; few = fits.2; roomy = record { long = l; room = omega (arith, e) } }
+
+  pub ring_shown : (z : r.number ≡ 0 → ⊥) {page : Page} → Put out 0 (ring_page r.second (at lines') (at kinds')) page.count page.bytes → Paged (Shows the_net) page
+  ring_shown z {page = page} q = go said
     where
-      go : Said → Paged (Shows the_net) to new
+      go : Said → Paged (Shows the_net) page
       go (inl (_, y)) = absurd (z (ap (λ (x : Answer). x.number) y.answers))
       go (inr (e, y)) =
           let s = ap (λ (x : Answer). x.second) y.answers in
-          paged (Shows the_net) out (ring_page r.second (at lines') (at kinds')) to new q
-          (omega (arith, ring_page_long (at lines') (at kinds') r.second, (ringable z).few, w.roomy))
+          paged (Shows the_net) out (ring_page r.second (at lines') (at kinds')) page q w.roomy
+          (omega (arith, ring_page_long (at lines') (at kinds') r.second, (ring_fits z).2))
           (inr (e, record { size = y.size; line = lines'; kind = kinds'; few = y.few; ring = y.ring; says = ap (λ k. ring_page k (at lines') (at kinds')) s }))
 
   pub sheetable : r.number ≡ 0 → Sheetable n ends choice' r.count out
@@ -170,13 +179,13 @@ module _ (n : ℕ) (ends choice out : List ℕ) (w : Showable n ends choice out)
             counted = ap (λ (x : Answer). x.count) y.answers;
           }
 
-  pub list_shown : r.number ≡ 0 → (to : ℕ) (new : List ℕ) → Paged (Sheet the_net choice') to new → Paged (Shows the_net) to new
-  list_shown z to new q = go said
+  pub list_shown : r.number ≡ 0 → {page : Page} → Paged (Sheet the_net choice') page → Paged (Shows the_net) page
+  list_shown z {page = page} q = go said
     where
-      go : Said → Paged (Shows the_net) to new
+      go : Said → Paged (Shows the_net) page
       go (inr (_, y)) = let e = ap (λ (x : Answer). x.number) y.answers in absurd (omega (arith, e, z))
       go (inl (d, y)) =
-          record { within = q.within; allowed = inl (d, record { choice = choice'; long = y.rest.long ∙ w.long; first = y.first; sheet = q.allowed }) }
+          record { long = q.long; within = q.within; allowed = inl (d, record { choice = choice'; long = y.rest.long ∙ w.long; first = y.first; sheet = q.allowed }) }
 
   -- a refusal that is no ring's is none of a network that read accepts
   pub only_ringed : (e : Refusal) → r ≡ refusing e → ((size : ℕ) → e ≡ Variants.Ringed size → ⊥) → ⊥

@@ -27,6 +27,7 @@ use Rattle.choice.specs.Choice.{Proper, Outdone}
 use Rattle.choice.specs.Calls.{Stepped, NextChoice}
 use Rattle.runs.proofs.Outcomes.{next_says}
 use Rattle.listing.specs.Page.{answer_line, side_digits, choice_line, ChoiceLines}
+use Rattle.listing.specs.declared.pieces.Page.{Page}
 use Rattle.listing.specs.Inside.{Put, has_side, Listable, PutChoices}
 use Rattle.listing.proofs.Putting.{put_more, answer_long, line_short}
 
@@ -53,7 +54,13 @@ pub record Stepping (net : Network) (first old : List ℕ) (place : ℕ) (c out 
   pub proper : Proper (tree_in net) (at c)
   pub rest : (t : List ℕ) → ChoiceLines net (64 - turns) c t → ChoiceLines net 64 first (text ++ t)
 
-module _ (n : ℕ) (ends first old : List ℕ) (w : Listable n ends first old) (place : ℕ) (low : place ≤ 11) where
+module _ (n : ℕ) (ends first : List ℕ) (page : Page) (w : Listable n ends first page.bytes) (low : page.count ≤ 11) where
+  abbrev old : List ℕ
+  old = page.bytes
+
+  abbrev place : ℕ
+  place = page.count
+
   abbrev net : Network
   net = network n ends
 
@@ -64,21 +71,21 @@ module _ (n : ℕ) (ends first old : List ℕ) (w : Listable n ends first old) (
     out_long : length out ≡ 262222
     out_long = ap length s.so_far.put ∙ length-sets old place s.text ∙ w.showable.roomy
 
-    pub line_fits : turns < 64 → to + 2 * length c + 1 ≤ length out
-    line_fits h = omega (arith, out_long, s.so_far.after, s.room, s.long, few_lines)
+    pub line_fits : turns < 64 → (length out ≡ 262222) × (to + (2 * length c + 1) ≤ 262222)
+    line_fits h = (out_long, omega (arith, s.so_far.after, s.room, s.long, few_lines))
 
-    pub answer_fits : to + 3 ≤ length out
-    answer_fits = omega (arith, out_long, s.so_far.after, s.room)
+    pub answer_fits : (length out ≡ 262222) × (to + 3 ≤ 262222)
+    answer_fits = (out_long, omega (arith, s.so_far.after, s.room))
 
     -- the end: no choice more
-    pub no_more : 64 ≤ turns → (r : ℕ) (new : List ℕ) → Put out to (answer_line 0) r new → PutChoices n ends first old place r new
-    no_more h r new q =
+    pub no_more : 64 ≤ turns → {page' : Page} → Put out to (answer_line 0) page'.count page'.bytes → PutChoices n ends first page page'
+    no_more h {page' = page'} q =
         let z : 64 - turns ≡ 0 = omega arith in
-        let all = put_more old place s.text to out s.so_far (answer_line 0) r new q.after q.put in
+        let all = put_more old place s.text to out s.so_far (answer_line 0) page'.count page'.bytes q.after q.put in
         record {
           text = s.text ++ answer_line 0;
           choices = s.rest (answer_line 0) (rw z (ChoiceLines.no_more_room));
-          fits = omega (arith, all.after, q.after, answer_fits, w.showable.roomy, out_long, answer_long 0);
+          fits = omega (arith, all.after, q.after, answer_fits.1, w.showable.roomy, out_long, answer_long 0);
           put = all;
         }
 
@@ -129,23 +136,23 @@ module _ (n : ℕ) (ends first old : List ℕ) (w : Listable n ends first old) (
               }
           go (inr (e, _, _)) = absurd (omega (arith, e, z))
 
-      pub last_fits : r + 3 ≤ length mid
-      last_fits = omega (arith, mid_long, put_line.after, length-append s.text line, line_few, s.room)
+      pub last_fits : (length mid ≡ 262222) × (r + 3 ≤ 262222)
+      last_fits = (mid_long, omega (arith, put_line.after, length-append s.text line, line_few, s.room))
 
-      pub ended : (k : ℕ) → answer.number ≡ k → (k ≡ 0 → ⊥) → (to' : ℕ) (new : List ℕ) → Put mid r (answer_line k) to' new → PutChoices n ends first old place to' new
-      ended k is z to' new y = go outcome
+      pub ended : (k : ℕ) → answer.number ≡ k → (k ≡ 0 → ⊥) → {page' : Page} → Put mid r (answer_line k) page'.count page'.bytes → PutChoices n ends first page page'
+      ended k is z {page' = page'} y = go outcome
         where
-          go : Outcome → PutChoices n ends first old place to' new
+          go : Outcome → PutChoices n ends first page page'
           go (inl (e, _, _)) = absurd (z (sym is ∙ e))
           go (inr (e, _, none_later)) =
               let one : suc (64 - (turns + 1)) ≡ 64 - turns = omega arith in
               let text = (s.text ++ line) ++ answer_line 9 in
-              let y' : Put mid r (answer_line 9) to' new = subst (λ k. Put mid r (answer_line k) to' new) (sym is ∙ e) y in
-              let all = put_more old place (s.text ++ line) r mid put_line (answer_line 9) to' new y'.after y'.put in
+              let y' : Put mid r (answer_line 9) page'.count page'.bytes = subst (λ k. Put mid r (answer_line k) page'.count page'.bytes) (sym is ∙ e) y in
+              let all = put_more old place (s.text ++ line) r mid put_line (answer_line 9) page'.count page'.bytes y'.after y'.put in
               record {
                 text = text;
                 choices = subst (λ (v : List ℕ). ChoiceLines net 64 first v) (sym (append_assoc s.text line (answer_line 9)))
                     (s.rest (line ++ answer_line 9) (subst (λ k. ChoiceLines net k c (line ++ answer_line 9)) one (ChoiceLines.last none_later)));
-                fits = omega (arith, all.after, y'.after, answer_long 9, last_fits, mid_long, w.showable.roomy);
+                fits = omega (arith, all.after, y'.after, answer_long 9, last_fits.1, mid_long, w.showable.roomy);
                 put = all;
               }

@@ -10,11 +10,24 @@ use Rattle.search.specs.Machine.{tree_in}
 use Rattle.search.specs.Orient.{back_lines}
 use Rattle.choice.specs.Choice.{Proper}
 use Rattle.listing.specs.Page.{ChoiceLines}
+use Rattle.listing.specs.declared.pieces.Page.{Page}
 
 -- A piece was put at a place of a buffer, and r is the place after it.
 pub record Put (old : List ℕ) (place : ℕ) (piece : List ℕ) (r : ℕ) (new : List ℕ) : Type 0 where
   pub after : r ≡ place + length piece
   pub put : new ≡ sets old place piece
+
+-- A page without bytes; a page with room for some more; and a piece put behind a page.
+pub record Blank (p : Page) : Type 0 where
+  pub long : length p.bytes ≡ 262222
+  pub none : p.count ≡ 0
+
+pub record Roomy (more : ℕ) (p : Page) : Type 0 where
+  pub long : length p.bytes ≡ 262222
+  pub room : p.count + more ≤ 262222
+
+abbrev pub Puts : List ℕ → Page → Page → Type 0
+Puts piece p q = Put p.bytes p.count piece q.count q.bytes
 
 -- A choice's byte is a side; and what is put for it.
 abbrev pub has_side : List ℕ → ℕ → Bool
@@ -24,11 +37,11 @@ abbrev pub side_piece : ℕ → List ℕ
 side_piece side = cond (not (eqb side none)) (digits 2 side) []
 
 -- A ring, and room for its page.
-pub record Ringable (size : ℕ) (line kind out : List ℕ) : Type 0 where
+pub record Ringable (size : ℕ) (line kind : List ℕ) (page : Page) : Type 0 where
   pub lines : size ≤ length line
   pub kinds : size ≤ length kind
   pub few : size ≤ 2048
-  pub roomy : 14343 ≤ length out
+  pub roomy : Roomy 14343 page
 
 -- An accepted network, a byte of a choice for each of its lines, and room for a page.
 pub record Showable (n : ℕ) (ends choice out : List ℕ) : Type 0 where
@@ -46,14 +59,15 @@ pub record Sheetable (n : ℕ) (ends choice : List ℕ) (back : ℕ) (out : List
   pub listable : Listable n ends choice out
   pub counted : back ≡ back_lines (network n ends)
 
--- What was put at the beginning of the buffer is a page that P allows.
-pub record Paged (P : List ℕ → Type 0) (r : ℕ) (out : List ℕ) : Type 0 where
-  pub within : r ≤ length out
-  pub allowed : P (take r out)
+-- What a page has is one that P allows.
+pub record Paged (P : List ℕ → Type 0) (p : Page) : Type 0 where
+  pub long : length p.bytes ≡ 262222
+  pub within : p.count ≤ length p.bytes
+  pub allowed : P (take p.count p.bytes)
 
--- The choices from one on were put at a place.
-pub record PutChoices (n : ℕ) (ends choice old : List ℕ) (place r : ℕ) (new : List ℕ) : Type 0 where
+-- The choices from one on were put behind a page.
+pub record PutChoices (n : ℕ) (ends choice : List ℕ) (old new : Page) : Type 0 where
   pub text : List ℕ
   pub choices : ChoiceLines (network n ends) 64 choice text
-  pub fits : place + length text ≤ length old
-  pub put : Put old place text r new
+  pub fits : old.count + length text ≤ length old.bytes
+  pub put : Puts text old new

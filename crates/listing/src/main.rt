@@ -8,17 +8,17 @@ mod pieces;
 
 ghost use Rattle.std.specs.Prelude.{◌≤◌, IfOk, length};
 
+use pieces::Page;
 use std::io;
 use std::io::{Read, Write};
 
-// One byte more than the longest text that is looked at, so that a longer one is seen to be longer; and room for the longest page: a first line, 64
-// choices of 2,048 back lines, and the last answer.
+// One byte more than the longest text that is looked at, so that a longer one is seen to be longer.
 fn main(rt: HostRuntime) -> io::Result<()> {
     let mut input = [0u8; 18451];
-    let mut output = [0u8; 262222];
+    let mut page = Page::empty();
     let got = read_full(&mut rt.stdin(), &mut input)?;
-    let bytes = page::print(&input[..got], &mut output);
-    io::writer(&rt).write_all(&output[..bytes])
+    page::print(&input[..got], &mut page);
+    io::writer(&rt).write_all(&page.bytes[..page.count])
 }
 
 // Reads until the buffer is full or the text ends, and answers how many bytes came.

@@ -1,101 +1,123 @@
-// What a page is made of. Each function puts a piece at a place of the page, and answers the place after it.
-ghost use Rattle.std.specs.Prelude.{◌+◌, ◌*◌, ◌≤◌, ◌<◌, length};
+// What a page is made of. Each function puts a piece behind what the page has.
+ghost use Rattle.std.specs.Prelude.{◌+◌, ◌*◌, ◌<◌, length};
 ghost use Rattle.laws.specs.Lists.{at};
 ghost use Rattle.network.specs.Numbers.{refusal_number};
 ghost use Rattle.listing.specs.Page.{answer_line, counts_line, choice_line, size_line, step_line, ring_page};
-ghost use Rattle.listing.specs.Inside.{Put, side_piece, has_side, Ringable};
+ghost use Rattle.listing.specs.Inside.{Blank, Roomy, Puts, side_piece, has_side, Ringable};
 
 use network::Refusal;
 use side::Side;
 
-// A number of two digits, alone on its line.
-pub(crate) fn put_answer(out: &mut [u8], at: usize, number: u8) -> usize
-    requires { at + 3 ≤ length out.old }
-    ensures { Put out.old at (answer_line number) result out.new }
-{
-    digits::put_number(out, at, 2, number as u16);
-    out[at + 2] = b'\n';
-    at + 3
+// Room for the longest page: a first line, 64 choices of 2,048 back lines, and the last answer.
+#[derive(Drop)]
+pub(crate) struct Page {
+    pub bytes: [u8; 262222],
+    // How many there are. What stands behind them means nothing.
+    pub count: usize,
 }
 
-// The number of a refusal, in the same way.
-pub(crate) fn put_refusal(out: &mut [u8], at: usize, refusal: Refusal) -> usize
-    requires { at + 3 ≤ length out.old }
-    ensures { Put out.old at (answer_line (refusal_number refusal)) result out.new }
-{
-    put_answer(out, at, u8::from(refusal))
-}
-
-// The first line where there is a choice: the answer 0, the meshes, the back lines.
-pub(crate) fn put_counts(out: &mut [u8], meshes: usize, back: usize) -> usize
-    requires in_bounds { 11 ≤ length out.old }
-    requires meshes_bound { meshes < 65536 }
-    requires back_bound { back < 65536 }
-    ensures { Put out.old 0 (counts_line meshes back) result out.new }
-{
-    digits::put_number(out, 0, 2, 0);
-    digits::put_number(out, 2, 4, meshes as u16);
-    digits::put_number(out, 6, 4, back as u16);
-    out[10] = b'\n';
-    11
-}
-
-// The sides of a choice, line by line.
-pub(crate) fn put_choice(out: &mut [u8], place: usize, choice: &[u8]) -> usize
-    requires { place + 2 * length choice.now + 1 ≤ length out.old }
-    ensures { Put out.old place (choice_line (has_side choice.now) (length choice.now) (at choice.now)) result out.new }
-{
-    let mut to = place;
-    for side in choice {
-        to = put_side(out, to, *side);
+impl Page {
+    pub(crate) fn empty() -> Page
+        ensures { Blank result }
+    {
+        Page {
+            bytes: [0; 262222],
+            count: 0,
+        }
     }
-    out[to] = b'\n';
-    to + 1
-}
 
-// A side in two digits; nothing where there is none.
-fn put_side(out: &mut [u8], place: usize, side: u8) -> usize
-    requires { place + 2 ≤ length out.old }
-    ensures { Put out.old place (side_piece side) result out.new }
-{
-    if side == Side::TREE {
-        return place;
+    // A number of two digits, alone on its line.
+    pub(crate) fn put_answer(&mut self, number: u8)
+        requires { Roomy 3 self.old }
+        ensures { Puts (answer_line number) self.old self.new }
+    {
+        digits::put_number(&mut self.bytes, self.count, 2, number as u16);
+        self.bytes[self.count + 2] = b'\n';
+        self.count += 3;
     }
-    digits::put_number(out, place, 2, side as u16);
-    place + 2
-}
 
-// The whole page of a ring: 7 and its length, then its steps.
-pub(crate) fn put_ring(out: &mut [u8], size: usize, lines: &[u16], kinds: &[u8]) -> usize
-    requires { Ringable size lines.now kinds.now out.old }
-    ensures { Put out.old 0 (ring_page size (at lines.now) (at kinds.now)) result out.new }
-{
-    let mut to = put_size(out, size);
-    for (line, kind) in lines[..size].iter().zip(&kinds[..size]) {
-        to = put_step(out, to, *line, *kind);
+    // The number of a refusal, in the same way.
+    pub(crate) fn put_refusal(&mut self, refusal: Refusal)
+        requires { Roomy 3 self.old }
+        ensures { Puts (answer_line (refusal_number refusal)) self.old self.new }
+    {
+        self.put_answer(u8::from(refusal));
     }
-    to
-}
 
-// The first line of a ring: 7 and its length.
-fn put_size(out: &mut [u8], size: usize) -> usize
-    requires in_bounds { 7 ≤ length out.old }
-    requires size_bound { size < 65536 }
-    ensures { Put out.old 0 (size_line size) result out.new }
-{
-    digits::put_number(out, 0, 2, 7);
-    digits::put_number(out, 2, 4, size as u16);
-    out[6] = b'\n';
-    7
-}
+    // The first line where there is a choice: the answer 0, the meshes, the back lines.
+    pub(crate) fn put_counts(&mut self, meshes: usize, back: usize)
+        requires roomy { Roomy 11 self.old }
+        requires meshes_bound { meshes < 65536 }
+        requires back_bound { back < 65536 }
+        ensures { Puts (counts_line meshes back) self.old self.new }
+    {
+        digits::put_number(&mut self.bytes, self.count, 2, 0);
+        digits::put_number(&mut self.bytes, self.count + 2, 4, meshes as u16);
+        digits::put_number(&mut self.bytes, self.count + 6, 4, back as u16);
+        self.bytes[self.count + 10] = b'\n';
+        self.count += 11;
+    }
 
-// A step of a ring: its line and its kind. (A byte: first choice writes kinds to a buffer that C lends.)
-fn put_step(out: &mut [u8], place: usize, line: u16, kind: u8) -> usize
-    requires { place + 7 ≤ length out.old }
-    ensures { Put out.old place (step_line line kind) result out.new }
-{
-    digits::put_number(out, place, 4, line);
-    digits::put_number(out, place + 4, 2, kind as u16);
-    out[place + 6] = b'\n';
-    place + 7
+    // The sides of a choice, line by line.
+    pub(crate) fn put_choice(&mut self, choice: &[u8])
+        requires { Roomy (2 * length choice.now + 1) self.old }
+        ensures { Puts (choice_line (has_side choice.now) (length choice.now) (at choice.now)) self.old self.new }
+    {
+        for side in choice {
+            self.put_side(*side);
+        }
+        self.bytes[self.count] = b'\n';
+        self.count += 1;
+    }
+
+    // A side in two digits; nothing where there is none.
+    fn put_side(&mut self, side: u8)
+        requires { Roomy 2 self.old }
+        ensures { Puts (side_piece side) self.old self.new }
+    {
+        if side == Side::TREE {
+            return;
+        }
+        digits::put_number(&mut self.bytes, self.count, 2, side as u16);
+        self.count += 2;
+    }
+
+    // The whole page of a ring: 7 and its length, then its steps.
+    pub(crate) fn put_ring(&mut self, size: usize, lines: &[u16], kinds: &[u8])
+        requires { Ringable size lines.now kinds.now self.old }
+        ensures { Puts (ring_page size (at lines.now) (at kinds.now)) self.old self.new }
+    {
+        self.put_size(size);
+        for (line, kind) in lines[..size].iter().zip(&kinds[..size]) {
+            self.put_step(*line, *kind);
+        }
+    }
+
+    // The first line of a ring: 7 and its length.
+    fn put_size(&mut self, size: usize)
+        requires roomy { Roomy 7 self.old }
+        requires size_bound { size < 65536 }
+        ensures { Puts (size_line size) self.old self.new }
+    {
+        digits::put_number(
+            &mut self.bytes,
+            self.count,
+            2,
+            u8::from(Refusal::Ringed(size)) as u16,
+        );
+        digits::put_number(&mut self.bytes, self.count + 2, 4, size as u16);
+        self.bytes[self.count + 6] = b'\n';
+        self.count += 7;
+    }
+
+    // A step of a ring: its line and its kind. (A byte: first choice writes kinds to a buffer that C lends.)
+    fn put_step(&mut self, line: u16, kind: u8)
+        requires { Roomy 7 self.old }
+        ensures { Puts (step_line line kind) self.old self.new }
+    {
+        digits::put_number(&mut self.bytes, self.count, 4, line);
+        digits::put_number(&mut self.bytes, self.count + 4, 2, kind as u16);
+        self.bytes[self.count + 6] = b'\n';
+        self.count += 7;
+    }
 }
