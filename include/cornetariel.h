@@ -40,8 +40,8 @@
  * Whatever else is wrong with what is lent is answered with a number. Nothing is read or written behind a
  * pointer whose length is 0, so NULL will do for it: a lone vertex has no list of ends and no choice.
  *
- * A call takes less than half a megabyte of stack: 449,000 bytes at most were measured (with kit
- * rattle-kit-5b), for draw on a path through 512 vertices. More than half of that is a table of all pairs of
+ * A call takes less than three quarters of a megabyte of stack: 697,680 bytes at most were measured (with kit
+ * rattle-kit-13f), for draw on a path through 512 vertices. A good third of that is a table of all pairs of
  * vertices. A thread that was given a small stack should have one megabyte.
  *
  *
