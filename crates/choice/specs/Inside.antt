@@ -18,9 +18,9 @@ pub record Begun (n : ℕ) (ends : List ℕ) (q : Search) (forks : Forks) (g : G
   pub grouping : q.number ≡ 0 → Grouping (tree_in (network n ends)) forks g outcome
 
 -- What the beginning hands out, or what the network is refused for.
-abbrev pub Begins : ℕ → List ℕ → Result Beginning Refusal → Type 0
-Begins n ends (Ok b) = Begun n ends (search_of 0 b.finds.kinds b.finds.heights b.finds.parents) b.forks b.groups b.outcome
-Begins n ends (Err e) = Faulted n ends (refusal_number e)
+abbrev pub Gathers : ℕ → List ℕ → Result Beginning Refusal → Type 0
+Gathers n ends (Ok b) = Begun n ends (search_of 0 b.finds.kinds b.finds.heights b.finds.parents) b.forks b.groups b.outcome
+Gathers n ends (Err e) = Faulted n ends (refusal_number e)
 
 -- The same of the number and the groups alone.
 pub record Gathered (n : ℕ) (ends : List ℕ) (number : ℕ) (g : Groups) (outcome : Result ⊤ Tear) : Type 0 where

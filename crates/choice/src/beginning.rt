@@ -1,5 +1,5 @@
 // What first choice, next choice and draw begin with: the search, and the groups of the back lines.
-ghost use Rattle.choice.specs.Inside.{Begins};
+ghost use Rattle.choice.specs.Inside.{Gathers};
 
 use fork::Forks;
 use groups::Groups;
@@ -18,7 +18,7 @@ pub struct Beginning {
 
 // Searches the network and groups its back lines.
 pub fn begin(vertices: usize, ends: &[u16]) -> Result<Beginning, Refusal>
-    ensures { Begins vertices ends.now result }
+    ensures { Gathers vertices ends.now result }
 {
     let finds = search::explore(vertices, ends)?;
     let mut forks = Forks {

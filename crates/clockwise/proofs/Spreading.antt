@@ -18,7 +18,7 @@ use Rattle.std.specs.Prelude.{Option, Some}
 use Rattle.fans.specs.declared.chains.Chains.{Chains}
 use Rattle.fans.specs.declared.rows.Row.{Row}
 use Rattle.network.specs.Inside.{Names}
-use Rattle.fans.specs.Chains.{list_in, Blank, Appended}
+use Rattle.fans.specs.Chains.{list_in, BlankRow, Appended}
 use Rattle.fans.proofs.Hanging.{chained_short, Leads, leads, Ahead, ahead, remaining, remaining_less, appended_none, appended_join}
 use Rattle.clockwise.specs.Laying.{item_in, Besides, spread_in, Spreads, first_in, Begins, lines_at, Layable}
 
@@ -112,7 +112,7 @@ module _ {n : ℕ} {parents uppers : List ℕ} {fans groups : Chains} (P : Layab
   abbrev list : ℕ → List ℕ
   list = lines_at parents uppers fans groups
 
-  pub laying_start : {order : Row} → Blank order → Laying n parents uppers fans groups order (replicate 513 0) 0
+  pub laying_start : {order : Row} → BlankRow order → Laying n parents uppers fans groups order (replicate 513 0) 0
   laying_start {order} blank =
       let none : gather list (upto 0) ≡ [] = nothing in
       record {

@@ -11,7 +11,7 @@ use Rattle.laws.proofs.Cases.{true_false}
 use Rattle.laws.proofs.Tests.{both_of}
 use Rattle.tree.specs.Tree.{Tree, tree_of}
 use Rattle.tree.specs.Returns.{backb}
-use Rattle.fork.specs.Inside.{Known, Long}
+use Rattle.fork.specs.Inside.{Known, LongForks}
 use Rattle.fork.specs.declared.Forks.{Forks}
 use Rattle.fork.proofs.Rule.{back_yes}
 use Rattle.fork.proofs.Knowing.{known_finished, known_kinds, known_heights, known_parents}
@@ -29,7 +29,7 @@ module _ {n m : ℕ} {ends kinds heights parents : List ℕ} (k : Known n m ends
   abbrev S : Tree
   S = tree_of n m ends kinds heights parents
 
-  pub group_spannable : {forks : Forks} → Long forks → Spannable S m ends kinds heights forks
+  pub group_spannable : {forks : Forks} → LongForks forks → Spannable S m ends kinds heights forks
   group_spannable l =
       record {
         same_lines = refl;

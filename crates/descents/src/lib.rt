@@ -7,7 +7,7 @@
 
 ghost use Rattle.std.specs.Prelude.{◌≡◌};
 ghost use Rattle.tree.specs.Tree.{Tree, tree_of};
-ghost use Rattle.fork.specs.Inside.{Known, Long};
+ghost use Rattle.fork.specs.Inside.{Known, LongForks};
 ghost use Rattle.descents.specs.Inside.{Walkable, Tied, Grouping};
 
 use fork::Forks;
@@ -30,7 +30,7 @@ pub fn group(
     ghost S: { Tree }
     requires tree { S ≡ tree_of vertices lines ends.now kinds.now heights.now parents.now }
     requires known { Known vertices lines ends.now kinds.now heights.now parents.now }
-    requires lent { Long forks.old }
+    requires lent { LongForks forks.old }
     ensures { Grouping S forks.new groups.new result }
 {
     spans::span(lines, ends, kinds, heights, forks);

@@ -11,7 +11,7 @@ use Rattle.tree.specs.Returns.{end}
 use Rattle.tree.specs.Words.{TreeLine, BackLine, Return, Above}
 use Rattle.fork.specs.Ends.{high, top}
 use Rattle.fork.specs.Link.{rival, Held, Overlap}
-use Rattle.fork.specs.Inside.{Finished, Heights, Parents, Long, Spans, Lows}
+use Rattle.fork.specs.Inside.{Finished, Heights, Parents, LongForks, Spans, Lows}
 use Rattle.fork.specs.declared.Forks.{Forks}
 use Rattle.spans.specs.Inside.{LongJumps}
 use Rattle.spans.specs.declared.Jumps.{Jumps}
@@ -135,7 +135,7 @@ pub record Markable (b f v : ℕ) (forks : Forks) (jumps : Jumps) : Type 0 where
   pub top : b < 2048
   pub line : f < 2048
   pub vertex : v < 512
-  pub forks_long : Long forks
+  pub forks_long : LongForks forks
   pub jumps_long : LongJumps jumps
 
 -- The jump from p goes on to where that from v goes, and p has what has the lesser rival of the two.

@@ -45,7 +45,7 @@ pub record Parents (S : Tree) (parents : List ℕ) : Type 0 where
   pub each : (v : ℕ) → v < S.vertices → at parents v ≡ S.parent v
 
 -- The table of forks has 2,048 places in each of its columns, one a line.
-pub record Long (t : Forks) : Type 0 where
+pub record LongForks (t : Forks) : Type 0 where
   pub sources : length t.source ≡ 2048
   pub stops : length t.stop ≡ 2048
   pub lows : length t.low ≡ 2048
@@ -54,7 +54,7 @@ pub record Long (t : Forks) : Type 0 where
 
 -- Two of the columns: the vertex that the line leaves, and the height at which it ends if it is a back line; a tree line has 512, which is no height.
 pub record Spans (S : Tree) (t : Forks) : Type 0 where
-  pub long : Long t
+  pub long : LongForks t
   pub sources : (k : ℕ) → k < S.lines → at t.source k ≡ S.source k
   pub stops : (b : ℕ) → BackLine S b → at t.stop b ≡ end S b
   pub no_stops : (f : ℕ) → TreeLine S f → at t.stop f ≡ 512

@@ -2,22 +2,21 @@
 use mathlib.Core.Bool.{Bool, true, false, not}
 use mathlib.Core.List.{List}
 use mathlib.Core.Logic.{◌≢◌}
-use mathlib.Core.Path.{◌≡◌, refl, sym, ◌∙◌, ap}
+use mathlib.Core.Path.{◌≡◌, refl, sym, ◌∙◌}
 use Prim.Native.Nat.{ℕ, zero, suc, ◌+◌, ◌-◌, ◌%◌, ◌≤◌, ◌<◌}
 use native.Mathlib.Omega.{arith}
 use lib.Dec.{eqb}
-use lib.ListN.{length, set, length-set, take, drop}
+use lib.ListN.{length, set, length-set}
 use lib.Seq.{get_or-set_same, get_or-set_other}
-use borrow.Author.Tests.{eq-eqb, ne_eqb, lt-leb, le-leb, not-true, not-false}
+use borrow.Author.Tests.{eq-eqb, ne_eqb, lt-leb, le-leb, not-true}
 use Rattle.laws.specs.Tests.{both, all}
-use Rattle.std.proofs.lemmas.List.{get_or_append_left, get_or-append_right, get_or-take, get_or-drop, length-take-le}
-use Rattle.laws.specs.Lists.{at, Past, filled}
+use Rattle.laws.specs.Lists.{at, Past}
 use Rattle.laws.proofs.Cases.{cases, eq_or, bool, true_false}
 use Rattle.laws.proofs.Tests.{all_yes, all_of}
 use Rattle.side.specs.Sides.{opposite}
 use Rattle.side.proofs.Opposite.{opposite_left, opposite_other}
-use Rattle.groups.specs.Groups.{columns, PutAt, PutBelow, Recoloured, Pivot, NoPivot, fitb, fitsb}
-use Rattle.groups.specs.Calls.{Copied, Rewritten, Reading}
+use Rattle.groups.specs.Groups.{columns, PutAt, PutBelow, Recoloured, fitb, fitsb}
+use Rattle.groups.specs.Calls.{Rewritten}
 use Rattle.groups.specs.declared.Groups.{Groups}
 
 -- a store, where it is and elsewhere
@@ -40,9 +39,6 @@ pub record Filled (P : ℕ → ℕ → Type 0) (n i : ℕ) (old new : List ℕ) 
   pub done : (j : ℕ) → j < i → P j (at new j)
   pub rest : (j : ℕ) → i ≤ j → at new j ≡ at old j
 
-pub filled_none : (P : ℕ → ℕ → Type 0) (n : ℕ) (l : List ℕ) → n ≤ length l → Filled P n 0 l l
-filled_none P n l h = record { upto = omega arith; room = h; long = refl; done = λ j o. absurd (omega arith); rest = λ j o. refl }
-
 pub filled_more : {P : ℕ → ℕ → Type 0} {n i : ℕ} {old l : List ℕ} {v : ℕ} → Filled P n i old l → i < n → P i v → Filled P n (i + 1) old (set l i v)
 filled_more {P} {n} {i} {old} {l} {v} f h p =
     let p' = put_at l i v (omega (arith, f.room, f.long)) in
@@ -59,24 +55,6 @@ filled_all P n i old l f h j o = f.done j (omega arith)
 
 filled_rest : (P : ℕ → ℕ → Type 0) (n i : ℕ) (old l : List ℕ) → Filled P n i old l → Past n old l
 filled_rest P n i old l f j o = f.rest j (omega (arith, f.upto))
-
--- The first choice
-
-module _ (lines : ℕ) (g : Groups) (choice choice' : List ℕ) (r : Reading lines g choice) (e : choice' ≡ filled lines g.parity choice) where
-  laid_long : length (take lines g.parity) ≡ lines
-  laid_long = length-take-le lines g.parity (omega (arith, r.few, g.long.1))
-
-  pub laid_first : Copied lines g choice choice'
-  laid_first =
-      record {
-        bytes = λ b h.
-            rw e
-            (get_or_append_left (take lines g.parity) (drop lines choice) 0 b (omega (arith, laid_long)) ∙ get_or-take lines g.parity b 0 h);
-        rest = λ j h.
-            let back : lines + (j - lines) ≡ j = omega arith in
-            rw e
-            (get_or-append_right (take lines g.parity) (drop lines choice) lines j 0 laid_long h ∙ get_or-drop lines choice (j - lines) 0 ∙ ap (at choice) back);
-      }
 
 -- Turning
 
@@ -100,31 +78,6 @@ pub record Seeking (lines b : ℕ) (g : Groups) (choice : List ℕ) : Type 0 whe
   pub upto : b ≤ lines
   pub above : (s : ℕ) → b ≤ s → s < lines → at g.leader s ≡ s → at choice s ≡ 0 → ⊥
 
-module _ (lines : ℕ) (g : Groups) (choice : List ℕ) where
-  pub seek_none : Seeking lines lines g choice
-  seek_none = record { upto = omega arith; above = λ s o h. absurd (omega arith) }
-
-  module _ (b : ℕ) (s : Seeking lines b g choice) (h : 0 < b) where
-    pub seek_here : at g.leader (b - 1) ≡ b - 1 → at choice (b - 1) ≡ 0 → Pivot lines (columns g).leader (at choice) (b - 1)
-    seek_here q z = record { within = omega (arith, s.upto); leads = q; left = z; above = λ j o. s.above j (omega arith) }
-
-    pass : (at g.leader (b - 1) ≡ b - 1 → at choice (b - 1) ≡ 0 → ⊥) → Seeking lines (b - 1) g choice
-    pass o =
-        record {
-          upto = omega (arith, s.upto);
-          above = λ j k u.
-              cases (eq_or j (b - 1)) (λ q. rw q o) (λ d. let d' : j ≢ b - 1 = d in s.above j (omega arith) u);
-        }
-
-    pub seek_right : (at choice (b - 1) ≡ 0 → ⊥) → Seeking lines (b - 1) g choice
-    seek_right n = pass (λ q z. n z)
-
-    pub seek_led : (at g.leader (b - 1) ≡ b - 1 → ⊥) → Seeking lines (b - 1) g choice
-    seek_led n = pass (λ q z. n q)
-
-  pub seek_all : (b : ℕ) → Seeking lines b g choice → b ≤ 0 → NoPivot lines (columns g).leader (at choice)
-  seek_all b s h j o = s.above j (omega arith) o
-
 -- The test of a choice
 
 module _ (p x y : ℕ) where
@@ -145,21 +98,8 @@ pub record Fitting (lines b : ℕ) (g : Groups) (choice : List ℕ) : Type 0 whe
   pub fit : (j : ℕ) → j < b → fitb ((columns g).parity j) (at choice j) (at choice ((columns g).leader j)) ≡ true
 
 module _ (lines : ℕ) (g : Groups) (choice : List ℕ) where
-  pub fitting_none : Fitting lines 0 g choice
-  fitting_none = record { upto = omega arith; fit = λ j h. absurd (omega arith) }
-
   module _ (b : ℕ) (s : Fitting lines b g choice) (h : b < lines) where
-    pub led_inside : Reading lines g choice → at g.leader b < length choice
-    led_inside q = omega (arith, q.inside b h, q.bytes)
-
     module _ (r : Bool) (here : r ≡ fitb (at g.parity b) (at choice b) (at choice (at g.leader b))) where
-      pub fitting_more : not r ≡ false → Fitting lines (b + 1) g choice
-      fitting_more t =
-          record {
-            upto = omega arith;
-            fit = λ j o. cases (eq_or j b) (λ q. rw q (sym here ∙ not-false r t)) (λ d. let d' : j ≢ b = d in s.fit j (omega arith));
-          }
-
       pub misfit : not r ≡ true → false ≡ fitsb lines (columns g).leader (columns g).parity (at choice)
       unfolding fitsb
       misfit f =

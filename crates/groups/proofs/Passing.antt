@@ -4,7 +4,7 @@ use mathlib.Core.Logic.{◌≢◌}
 use mathlib.Core.Path.{◌≡◌, refl, sym, ◌∙◌, ap}
 use Prim.Native.Nat.{ℕ, ◌+◌, ◌%◌, ◌≤◌, ◌<◌}
 use native.Mathlib.Omega.{arith}
-use lib.ListN.{set, length-set}
+use lib.ListN.{set}
 use Rattle.laws.specs.Lists.{at}
 use Rattle.laws.proofs.Cases.{cases, eq_or}
 use Rattle.groups.specs.Constraints.{Even}
@@ -14,7 +14,7 @@ use Rattle.groups.specs.Calls.{Alike, Passable, PassedBy, LookedUp, Flattened}
 use Rattle.groups.specs.declared.Groups.{Groups}
 use Rattle.groups.proofs.Filling.{put_below}
 use Rattle.groups.proofs.Alike.{alike_same, alike_then}
-use Rattle.groups.proofs.Pointers.{pointed_stands, from_pointed, to_pointed, one_stands, passed_down, passed_own, passed_stands, flat_passed, flat_here}
+use Rattle.groups.proofs.Pointers.{pointed_stands, from_pointed, to_pointed, one_stands, passed_stands, flat_passed, flat_here}
 
 -- A pointer drawn past a line
 
@@ -39,16 +39,6 @@ module _ (x y : ℕ) (g : Groups) (p : Passable x y g) (t : ℕ) (is_turn : t �
 
   lower : at g.leader x < x
   lower = omega (arith, p.less, p.next)
-
-  -- the columns keep to what they kept to
-  pub new_long : Long (set g.leader x (at g.leader y)) (set g.parity x t) g.from g.to
-  new_long = (length-set g.leader x (at g.leader y) ∙ g.long.0, length-set g.parity x t ∙ g.long.1, g.long.2, g.long.3)
-
-  pub new_points : PointsDown (set g.leader x (at g.leader y))
-  new_points = passed_down x g.down g.own (pointed_stands g) p.within lower new_leaders new_parities
-
-  pub new_sides : OwnSide (set g.leader x (at g.leader y)) (set g.parity x t)
-  new_sides = passed_own x g.down g.own (pointed_stands g) p.within lower new_leaders new_parities
 
   module _ (long : Long (set g.leader x (at g.leader y)) (set g.parity x t) g.from g.to) (down : PointsDown (set g.leader x (at g.leader y)))
       (own : OwnSide (set g.leader x (at g.leader y)) (set g.parity x t)) where
@@ -108,9 +98,6 @@ climb_start b g h =
     }
 
 module _ (b : ℕ) (g₀ g : Groups) (x turn y : ℕ) (c : Climbing b g₀ g x turn y) (d : y ≡ x → ⊥) where
-  pub climb_passable : Passable x y g
-  climb_passable = let d' : y ≢ x = d in record { within = c.within; next = c.next; less = omega (arith, c.not_above) }
-
   module _ (g' : Groups) (p : PassedBy x y g g') where
     abbrev x' : ℕ
     x' = at g'.leader x
@@ -163,16 +150,6 @@ pub record Flattening (lines : ℕ) (g₀ g : Groups) (b : ℕ) : Type 0 where
   pub leaders : (w : ℕ) → w < b → at g.leader w ≡ (pointed g₀).leader w
   pub parities : (w : ℕ) → w < b → (columns g).parity w ≡ (pointed g₀).parity w
 
-pub flat_start : (lines : ℕ) (g : Groups) → lines ≤ 2048 → Flattening lines g g 0
-flat_start lines g h =
-    record {
-      few = h;
-      upto = omega arith;
-      alike = alike_same 2048 (pointed g);
-      leaders = λ w k. absurd (omega arith);
-      parities = λ w k. absurd (omega arith);
-    }
-
 module _ (lines : ℕ) (g₀ g : Groups) (b : ℕ) (s : Flattening lines g₀ g b) where
   module _ (h : b < lines) where
     within : b < 2048
@@ -208,9 +185,6 @@ module _ (lines : ℕ) (g₀ g : Groups) (b : ℕ) (s : Flattening lines g₀ g 
 
       lower_line : l < b
       lower_line = let d' : l ≢ b = d in omega (arith, g.down b within)
-
-      pub flat_passable : Passable b l g
-      flat_passable = record { within = within; next = refl; less = lower_line }
 
       pub flat_drawn : (g' : Groups) → PassedBy b l g g' → Flattening lines g₀ g' (b + 1)
       flat_drawn g' p =

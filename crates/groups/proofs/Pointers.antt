@@ -167,18 +167,6 @@ module _ {n : ℕ} {up entry leader parity leader' parity' : ℕ → ℕ} (down 
 module _ {n : ℕ} {up entry leader parity up' entry' : ℕ → ℕ} (x : ℕ) (down : Down n up) (own : (w : ℕ) → w < n → up w ≡ w → Even (entry w))
     (f : StandsFor n up entry leader parity) (h : x < n) (less : up x < x)
     (u : PutBelow n up x (up (up x)) up') (e : PutBelow n entry x ((entry x + entry (up x)) % 2) entry') where
-  pub passed_down : Down n up'
-  passed_down w k =
-      cases (eq_or w x)
-      (λ q. let z : up' w ≡ up (up x) = ap up' q ∙ u.here in omega (arith, down (up x) (omega arith)))
-      (λ d. omega (arith, u.there w k d, down w k))
-
-  pub passed_own : (w : ℕ) → w < n → up' w ≡ w → Even (entry' w)
-  passed_own w k s =
-      cases (eq_or w x)
-      (λ q. let z : up' w ≡ up (up x) = ap up' q ∙ u.here in absurd (omega (arith, down (up x) (omega arith))))
-      (λ d. omega (arith, e.there w k d, own w k (sym (u.there w k d) ∙ s)))
-
   -- x goes along with its new pointer
   at_x : (leader x ≡ leader (up' x)) × (parity x ≡ (entry' x + parity (up' x)) % 2)
   at_x =
@@ -218,20 +206,6 @@ module _ {n : ℕ} {up entry leader parity up' entry' : ℕ → ℕ} (x : ℕ) (
 
 -- (U3) A leader, high, is pointed to a lower one, low, with the turn q: the lines that high led have low for a leader and turn by q, and all others keep
 -- theirs. A line and the line that it points to have one leader, before and after.
-module _ {n : ℕ} {up entry up' entry' : ℕ → ℕ} (low high q : ℕ) (down : Down n up) (own : (w : ℕ) → w < n → up w ≡ w → Even (entry w))
-    (less : low < high) (u : PutBelow n up high low up') (e : PutBelow n entry high q entry') where
-  pub given_down : Down n up'
-  given_down w k =
-      cases (eq_or w high)
-      (λ z. omega (arith, ap up' z, u.here))
-      (λ d. omega (arith, u.there w k d, down w k))
-
-  pub given_own : (w : ℕ) → w < n → up' w ≡ w → Even (entry' w)
-  given_own w k s =
-      cases (eq_or w high)
-      (λ z. absurd (omega (arith, ap up' z, u.here)))
-      (λ d. omega (arith, e.there w k d, own w k (sym (u.there w k d) ∙ s)))
-
 module _ {n : ℕ} {up entry leader parity up' entry' leader' parity' : ℕ → ℕ} (low high q : ℕ) (down : Down n up)
     (own : (w : ℕ) → w < n → up w ≡ w → Even (entry w)) (f : StandsFor n up entry leader parity) (f' : StandsFor n up' entry' leader' parity')
     (less : low < high) (h : high < n) (low_own : up low ≡ low) (high_own : up high ≡ high)

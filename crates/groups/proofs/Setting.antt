@@ -1,30 +1,19 @@
 -- The two functions that write all four places of a line: the one that points the higher of two leaders to the lower one, and the start.
 use mathlib.Core.List.{List}
-use mathlib.Core.Logic.{◌≢◌}
-use mathlib.Core.Path.{◌≡◌, sym, ◌∙◌, ap}
-use Prim.Native.Nat.{ℕ, ◌+◌, ◌≤◌, ◌<◌}
+use mathlib.Core.Path.{◌≡◌, sym, ◌∙◌}
+use Prim.Native.Nat.{ℕ, ◌≤◌, ◌<◌}
 use native.Mathlib.Omega.{arith}
-use lib.ListN.{set, length-set}
+use lib.ListN.{set}
 use Rattle.laws.specs.Lists.{at}
-use Rattle.laws.proofs.Cases.{cases, eq_or}
-use Rattle.groups.specs.Constraints.{Even}
 use Rattle.groups.specs.Groups.{columns, pointed, PutBelow}
 use Rattle.groups.specs.Pointers.{Long, PointsDown, OwnSide, BaseParity}
 use Rattle.groups.specs.Calls.{Started, Mergeable, GivenOver}
 use Rattle.groups.specs.declared.Groups.{Groups}
 use Rattle.groups.proofs.Filling.{put_below}
-use Rattle.groups.proofs.Pointers.{pointed_stands, from_pointed, to_pointed, leads_points, given_down, given_own, given_over}
+use Rattle.groups.proofs.Pointers.{pointed_stands, from_pointed, to_pointed, leads_points, given_over}
 
 -- All four places of a line are written
 module _ (x l t u v : ℕ) (g : Groups) (h : x < 2048) where
-  written_long : Long (set g.leader x l) (set g.parity x t) (set g.from x u) (set g.to x v)
-  written_long = (
-    length-set g.leader x l ∙ g.long.0,
-    length-set g.parity x t ∙ g.long.1,
-    length-set g.from x u ∙ g.long.2,
-    length-set g.to x v ∙ g.long.3,
-  )
-
   written_leaders : PutBelow 2048 (at g.leader) x l (at (set g.leader x l))
   written_leaders = put_below 2048 g.leader x l (omega (arith, g.long.0))
 
@@ -51,16 +40,6 @@ module _ (low high turn b d : ℕ) (g : Groups) (m : Mergeable low high b d g) w
 
   high_own : at g.leader high ≡ high
   high_own = leads_points g.down (pointed_stands g) high m.within m.high_leads
-
-  -- the columns keep to what they kept to
-  pub given_long : Long (set g.leader high low) (set g.parity high turn) (set g.from high b) (set g.to high d)
-  given_long = written_long high low turn b d g m.within
-
-  pub given_points : PointsDown (set g.leader high low)
-  given_points = given_down low high turn g.down g.own m.less leaders_given parities_given
-
-  pub given_sides : OwnSide (set g.leader high low) (set g.parity high turn)
-  given_sides = given_own low high turn g.down g.own m.less leaders_given parities_given
 
   module _ (long : Long (set g.leader high low) (set g.parity high turn) (set g.from high b) (set g.to high d)) (down : PointsDown (set g.leader high low))
       (own : OwnSide (set g.leader high low) (set g.parity high turn)) where
@@ -113,90 +92,7 @@ pub record Starting (lines : ℕ) (kinds : List ℕ) (g : Groups) (b : ℕ) : Ty
   pub froms : (w : ℕ) → w < b → at g.from w ≡ w
   pub tos : (w : ℕ) → w < b → at g.to w ≡ w
 
-pub starting : (lines : ℕ) (kinds : List ℕ) (g : Groups) → lines ≤ 2048 → Starting lines kinds g 0
-starting lines kinds g h =
-    record {
-      few = h;
-      upto = omega arith;
-      leaders = λ w o. absurd (omega arith);
-      parities = λ w o. absurd (omega arith);
-      froms = λ w o. absurd (omega arith);
-      tos = λ w o. absurd (omega arith);
-    }
-
 module _ (lines : ℕ) (kinds : List ℕ) (g : Groups) (b : ℕ) (s : Starting lines kinds g b) where
-  module _ (h : b < lines) (p : ℕ) (base : BaseParity (at kinds b) p) where
-    alone_within : b < 2048
-    alone_within = omega (arith, s.few)
-
-    leaders_alone : PutBelow 2048 (at g.leader) b b (at (set g.leader b b))
-    leaders_alone = written_leaders b b p b b g alone_within
-
-    parities_alone : PutBelow 2048 (at g.parity) b p (at (set g.parity b p))
-    parities_alone = written_parities b b p b b g alone_within
-
-    froms_alone : PutBelow 2048 (at g.from) b b (at (set g.from b b))
-    froms_alone = written_froms b b p b b g alone_within
-
-    tos_alone : PutBelow 2048 (at g.to) b b (at (set g.to b b))
-    tos_alone = written_tos b b p b b g alone_within
-
-    -- 0 and 2 are even
-    base_even : Even p
-    base_even = cases (eq_or (at kinds b) 1) (λ e. omega (arith, base.back e)) (λ d. omega (arith, base.other d))
-
-    -- the columns keep to what they kept to
-    pub alone_long : Long (set g.leader b b) (set g.parity b p) (set g.from b b) (set g.to b b)
-    alone_long = written_long b b p b b g alone_within
-
-    pub alone_points : PointsDown (set g.leader b b)
-    alone_points w k =
-        cases (eq_or w b)
-        (λ e. omega (arith, ap (at (set g.leader b b)) e, leaders_alone.here))
-        (λ d. omega (arith, leaders_alone.there w k d, g.down w k))
-
-    pub alone_sides : OwnSide (set g.leader b b) (set g.parity b p)
-    alone_sides w k q =
-        cases (eq_or w b)
-        (λ e. omega (arith, ap (at (set g.parity b p)) e, parities_alone.here, base_even))
-        (λ d. omega (arith, parities_alone.there w k d, g.own w k (sym (leaders_alone.there w k d) ∙ q)))
-
-    pub starting_more : (long : Long (set g.leader b b) (set g.parity b p) (set g.from b b) (set g.to b b)) (down : PointsDown (set g.leader b b))
-        (own : OwnSide (set g.leader b b) (set g.parity b p))
-        → Starting lines kinds
-        (record {
-          leader = set g.leader b b;
-          parity = set g.parity b p;
-          from = set g.from b b;
-          to = set g.to b b;
-          long = long;
-          down = down;
-          own = own;
-        })
-        (b + 1)
-    starting_more long down own =
-        let k = alone_within in
-        record {
-          few = s.few;
-          upto = omega arith;
-          leaders = λ w o.
-              cases (eq_or w b)
-              (λ e. rw e leaders_alone.here)
-              (λ d. let d' : w ≢ b = d in leaders_alone.there w (omega arith) d ∙ s.leaders w (omega arith));
-          parities = λ w o.
-              cases (eq_or w b)
-              (λ e. rw (e, parities_alone.here) base)
-              (λ d. let d' : w ≢ b = d in rw (parities_alone.there w (omega arith) d) (s.parities w (omega arith)));
-          froms = λ w o.
-              cases (eq_or w b)
-              (λ e. rw e froms_alone.here)
-              (λ d. let d' : w ≢ b = d in froms_alone.there w (omega arith) d ∙ s.froms w (omega arith));
-          tos = λ w o.
-              cases (eq_or w b)
-              (λ e. rw e tos_alone.here)
-              (λ d. let d' : w ≢ b = d in tos_alone.there w (omega arith) d ∙ s.tos w (omega arith));
-        }
-
   pub started : lines ≤ b → Started lines kinds g
   started h =
       let k = s.few in

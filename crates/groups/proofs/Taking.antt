@@ -6,9 +6,9 @@ use Prim.Native.Nat.{ℕ, ◌+◌, ◌%◌, ◌<◌, min, max}
 use native.Mathlib.Omega.{arith}
 use Rattle.laws.proofs.Cases.{cases, lt_or}
 use Rattle.groups.specs.Groups.{Tables, pointed, Relabel, Merged}
-use Rattle.groups.specs.Calls.{Alike, Joinable, LookedUp, Mergeable, GivenOver, Replied}
+use Rattle.groups.specs.Calls.{Alike, Joinable, LookedUp, GivenOver, Replied}
 use Rattle.groups.specs.declared.Groups.{Groups}
-use Rattle.groups.specs.declared.Joining.TheVariants.{Agrees, Conflicts, Joins}
+use Rattle.groups.specs.declared.Joining.TheVariants.{Joins}
 use Rattle.groups.proofs.Alike.{alike_then}
 
 -- a group given over, of tables that agree
@@ -35,15 +35,6 @@ module _ (b d kind : ℕ) (g g₁ g₂ : Groups) (j : Joinable b d) (x s : ℕ) 
   second_parity : (pointed g₁).parity d ≡ (pointed g).parity d
   second_parity = one.alike.parities d j.second
 
-  x_leads : (pointed g₂).leader x ≡ x
-  x_leads = both.leaders x one.within ∙ one.leads
-
-  y_leads : (pointed g₂).leader y ≡ y
-  y_leads = two.alike.leaders y two.within ∙ two.leads
-
-  leads_either : (z : ℕ) → (z ≡ x) ⊎ (z ≡ y) → (pointed g₂).leader z ≡ z
-  leads_either z o = cases o (λ e. rw e x_leads) (λ e. rw e y_leads)
-
   -- the higher leader may be pointed to the lower one
   module _ (low high : ℕ) (is_low : low ≡ min x y) (is_high : high ≡ max x y) (n : x ≡ y → ⊥) where
     less : low < high
@@ -52,28 +43,9 @@ module _ (b d kind : ℕ) (g g₁ g₂ : Groups) (j : Joinable b d) (x s : ℕ) 
     who : ((low ≡ x) × (high ≡ y)) ⊎ ((low ≡ y) × (high ≡ x))
     who = cases (lt_or x y) (λ h. inl (omega (arith, is_low), omega (arith, is_high))) (λ h. inr (omega (arith, is_low), omega (arith, is_high)))
 
-    pub mergeable : Mergeable low high b d g₂
-    mergeable =
-        record {
-          first = j.first;
-          second = j.second;
-          less = less;
-          within = omega (arith, is_high, one.within, two.within);
-          low_leads = leads_either low (cases who (λ a. inl a.0) (λ a. inr a.0));
-          high_leads = leads_either high (cases who (λ a. inr a.1) (λ a. inl a.1));
-        }
-
   module _ (turn : ℕ) (is_turn : turn ≡ (s + t + kind) % 2) where
     is_sum : turn ≡ ((pointed g).parity b + (pointed g).parity d + kind) % 2
     is_sum = omega (arith, is_turn, one.turned, two.turned, second_parity)
-
-    pub agreed : x ≡ y → turn ≡ 0 → Replied b d kind g g₂ Agrees
-    agreed e z = record { answer = (one.leader ∙ e ∙ sym second_leader, omega (arith, is_sum), both) }
-
-    pub conflicting : x ≡ y → (turn ≡ 0 → ⊥) → Replied b d kind g g₂ Conflicts
-    conflicting e z =
-        let z' : turn ≢ 0 = z in
-        record { answer = (one.leader ∙ e ∙ sym second_leader, omega (arith, is_sum), both) }
 
     pub joined : (low high : ℕ) → low ≡ min x y → high ≡ max x y → (x ≡ y → ⊥) → (g' : Groups) → GivenOver low high turn b d g₂ g'
         → Replied b d kind g g' Joins

@@ -17,14 +17,14 @@ use Rattle.digits.proofs.Back.{length_digits}
 use Rattle.text.proofs.Filling.{sets_append}
 use Rattle.side.specs.Sides.{none}
 use Rattle.listing.specs.Page.{answer_line, counts_line, side_digits, choice_line, size_line, step_line, ring_page}
-use Rattle.listing.specs.Inside.{Put, Roomy, side_piece, has_side, Ringable}
+use Rattle.listing.specs.Inside.{Put, RoomyPage, side_piece, has_side, Ringable}
 use Rattle.listing.specs.declared.pieces.Page.{Page}
 
 pub join : (p q l : List ℕ) (i j : ℕ) → j ≡ i + length p → sets (sets l i p) j q ≡ sets l i (p ++ q)
 join p q l i j e = rw e (sym (sets_append l i p q))
 
 -- Room behind a page, said of its parts.
-pub roomy : {more : ℕ} {p : Page} → (length p.bytes ≡ 262222) × (p.count + more ≤ 262222) → Roomy more p
+pub roomy : {more : ℕ} {p : Page} → (length p.bytes ≡ 262222) × (p.count + more ≤ 262222) → RoomyPage more p
 roomy h = record { long = h.0; room = h.1 }
 
 -- What was put behind a page without bytes was put at its beginning.

@@ -18,11 +18,11 @@ pub record Put (old : List ℕ) (place : ℕ) (piece : List ℕ) (r : ℕ) (new 
   pub put : new ≡ sets old place piece
 
 -- A page without bytes; a page with room for some more; and a piece put behind a page.
-pub record Blank (p : Page) : Type 0 where
+pub record BlankPage (p : Page) : Type 0 where
   pub long : length p.bytes ≡ 262222
   pub none : p.count ≡ 0
 
-pub record Roomy (more : ℕ) (p : Page) : Type 0 where
+pub record RoomyPage (more : ℕ) (p : Page) : Type 0 where
   pub long : length p.bytes ≡ 262222
   pub room : p.count + more ≤ 262222
 
@@ -41,7 +41,7 @@ pub record Ringable (size : ℕ) (line kind : List ℕ) (page : Page) : Type 0 w
   pub lines : size ≤ length line
   pub kinds : size ≤ length kind
   pub few : size ≤ 2048
-  pub roomy : Roomy 14343 page
+  pub roomy : RoomyPage 14343 page
 
 -- An accepted network, a byte of a choice for each of its lines, and room for a page.
 pub record Showable (n : ℕ) (ends choice out : List ℕ) : Type 0 where

@@ -2,14 +2,14 @@
 ghost use Rattle.std.specs.Prelude.{◌≡◌, ◌≤◌};
 ghost use Rattle.network.specs.Network.{network};
 ghost use Rattle.listing.specs.Page.{Prints, Shows, Sheet};
-ghost use Rattle.listing.specs.Inside.{Blank, Showable, Listable, Sheetable, Paged, PutChoices};
+ghost use Rattle.listing.specs.Inside.{BlankPage, Showable, Listable, Sheetable, Paged, PutChoices};
 
 use crate::pieces::Page;
 use network::Refusal;
 
 // Puts the page of an input.
 pub(crate) fn print(input: &[u8], page: &mut Page)
-    requires { Blank page.old }
+    requires { BlankPage page.old }
     ensures { Paged (Prints input.now) page.new }
 {
     if input.len() > 18450 {

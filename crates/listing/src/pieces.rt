@@ -3,7 +3,7 @@ ghost use Rattle.std.specs.Prelude.{◌+◌, ◌*◌, ◌<◌, length};
 ghost use Rattle.laws.specs.Lists.{at};
 ghost use Rattle.network.specs.Numbers.{refusal_number};
 ghost use Rattle.listing.specs.Page.{answer_line, counts_line, choice_line, size_line, step_line, ring_page};
-ghost use Rattle.listing.specs.Inside.{Blank, Roomy, Puts, side_piece, has_side, Ringable};
+ghost use Rattle.listing.specs.Inside.{BlankPage, RoomyPage, Puts, side_piece, has_side, Ringable};
 
 use network::Refusal;
 use side::Side;
@@ -18,7 +18,7 @@ pub(crate) struct Page {
 
 impl Page {
     pub(crate) fn empty() -> Page
-        ensures { Blank result }
+        ensures { BlankPage result }
     {
         Page {
             bytes: [0; 262222],
@@ -28,7 +28,7 @@ impl Page {
 
     // A number of two digits, alone on its line.
     pub(crate) fn put_answer(&mut self, number: u8)
-        requires { Roomy 3 self.old }
+        requires { RoomyPage 3 self.old }
         ensures { Puts (answer_line number) self.old self.new }
     {
         digits::put_number(&mut self.bytes, self.count, 2, number as u16);
@@ -38,7 +38,7 @@ impl Page {
 
     // The number of a refusal, in the same way.
     pub(crate) fn put_refusal(&mut self, refusal: Refusal)
-        requires { Roomy 3 self.old }
+        requires { RoomyPage 3 self.old }
         ensures { Puts (answer_line (refusal_number refusal)) self.old self.new }
     {
         self.put_answer(u8::from(refusal));
@@ -46,7 +46,7 @@ impl Page {
 
     // The first line where there is a choice: the answer 0, the meshes, the back lines.
     pub(crate) fn put_counts(&mut self, meshes: usize, back: usize)
-        requires roomy { Roomy 11 self.old }
+        requires roomy { RoomyPage 11 self.old }
         requires meshes_bound { meshes < 65536 }
         requires back_bound { back < 65536 }
         ensures { Puts (counts_line meshes back) self.old self.new }
@@ -60,7 +60,7 @@ impl Page {
 
     // The sides of a choice, line by line.
     pub(crate) fn put_choice(&mut self, choice: &[u8])
-        requires { Roomy (2 * length choice.now + 1) self.old }
+        requires { RoomyPage (2 * length choice.now + 1) self.old }
         ensures { Puts (choice_line (has_side choice.now) (length choice.now) (at choice.now)) self.old self.new }
     {
         for side in choice {
@@ -72,7 +72,7 @@ impl Page {
 
     // A side in two digits; nothing where there is none.
     fn put_side(&mut self, side: u8)
-        requires { Roomy 2 self.old }
+        requires { RoomyPage 2 self.old }
         ensures { Puts (side_piece side) self.old self.new }
     {
         if side == Side::TREE {
@@ -95,7 +95,7 @@ impl Page {
 
     // The first line of a ring: 7 and its length.
     fn put_size(&mut self, size: usize)
-        requires roomy { Roomy 7 self.old }
+        requires roomy { RoomyPage 7 self.old }
         requires size_bound { size < 65536 }
         ensures { Puts (size_line size) self.old self.new }
     {
@@ -112,7 +112,7 @@ impl Page {
 
     // A step of a ring: its line and its kind. (A byte: first choice writes kinds to a buffer that C lends.)
     fn put_step(&mut self, line: u16, kind: u8)
-        requires { Roomy 7 self.old }
+        requires { RoomyPage 7 self.old }
         ensures { Puts (step_line line kind) self.old self.new }
     {
         digits::put_number(&mut self.bytes, self.count, 4, line);

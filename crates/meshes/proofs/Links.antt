@@ -53,9 +53,6 @@ module _ {net : Network} (fit : Fit net) {order starts : List ℕ} (laid : Laid 
       (member net fit every rot laid.whole v i h (subst (λ (x : ℕ). i < x) (sym (part_long v h)) g)).0 in
       (omega (arith, fit.few_lines), omega (arith, fit.ends_long))
 
-  pub linking_start : {v : ℕ} {nexts : List ℕ} → Linked net order starts v nexts → Linking net order starts v 0 nexts
-  linking_start L = record { before = L; here = λ j h. absurd (omega arith) }
-
   module _ {v i : ℕ} {nexts : List ℕ} (h : v < net.vertices) (L : Linking net order starts v i nexts) (g : i < many_at starts v) where
     in_part : i < length (rot v)
     in_part = subst (λ (x : ℕ). i < x) (sym (part_long v h)) g

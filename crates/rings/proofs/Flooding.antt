@@ -2,22 +2,20 @@
 -- lines of the queue, every line that a way leads to is in it.
 use mathlib.Core.Bool.{true, cond}
 use mathlib.Core.List.{List}
-use mathlib.Core.Logic.{◌≢◌}
-use mathlib.Core.Path.{◌≡◌, refl, sym, ◌∙◌, ap, subst}
+use mathlib.Core.Path.{◌≡◌, refl, sym, ◌∙◌, ap}
 use Prim.Native.Nat.{ℕ, suc, ◌+◌, ◌-◌, ◌*◌, ◌≤◌, ◌<◌}
 use native.Mathlib.Omega.{arith}
 use lib.Dec.{eqb}
-use lib.ListN.{length, set, length-set, replicate, length-replicate}
+use lib.ListN.{set, length-set}
 use borrow.Author.Tests.{eq-eqb, ne_eqb}
 use Rattle.laws.specs.Lists.{at}
-use Rattle.laws.specs.Chains.{Follows}
 use Rattle.laws.proofs.Cases.{cases, eq_or, lt_or}
 use Rattle.laws.proofs.Counting.{count_le, count_all}
 use Rattle.groups.specs.Groups.{columns}
 use Rattle.groups.specs.declared.Groups.{Groups}
 use Rattle.groups.proofs.Ways.{way_in}
 use Rattle.groups.proofs.Filling.{stored, beside}
-use Rattle.rings.specs.Flooding.{Step, leaves, arrives, Queued, Reach, Further, Spread, LookFrom, Looked, ScanFrom, Scanned, Unflooded, Found}
+use Rattle.rings.specs.Flooding.{Step, leaves, arrives, Queued, Reach, Further, Spread, LookFrom, Looked, ScanFrom, Scanned, Unflooded}
 use Rattle.rings.proofs.Halves.{half_step, half_of, arrives_inside}
 
 -- different numbers below m are not more than m
@@ -106,13 +104,6 @@ module _ (lines x s n : ℕ) (g : Groups) (queue via : List ℕ) (l : LookFrom l
   pub y_small : y < 2048
   y_small = omega (arith, y_inside, l.standing.sound.few)
 
-  pub look_old : at via y < lines → Looked lines s n n g queue via queue via
-  look_old h =
-      record {
-        further = record { reach = l.standing.reach; more = omega arith; same = λ i o. refl; still = λ i o. o };
-        met = rw (← is_y.0) h;
-      }
-
   module _ (new_y : lines ≤ at via y) where
     n_inside : n < lines
     n_inside = queue_room lines n (at queue) (at via) l.standing.reach.queued y y_inside new_y l.standing.place l.standing.within
@@ -166,17 +157,6 @@ module _ (lines x s n : ℕ) (g : Groups) (queue via : List ℕ) (l : LookFrom l
 
 -- Looks along the chain of x
 
-further_then : {lines n n' n'' : ℕ} {g : Groups} {queue via queue' via' queue'' via'' : List ℕ} → Further lines g n n' queue via queue' via'
-    → Further lines g n' n'' queue' via' queue'' via'' → Further lines g n n'' queue via queue'' via''
-further_then f k =
-    let m = f.more in
-    record {
-      reach = k.reach;
-      more = omega (arith, k.more);
-      same = λ i h. k.same i (omega arith) ∙ f.same i h;
-      still = λ y h. k.still y (f.still y h);
-    }
-
 -- the half-steps below s are looked along, and s is the next one of x
 pub record Along (lines x n k s : ℕ) (g : Groups) (queue₀ via₀ queue via : List ℕ) : Type 0 where
   pub further : Further lines g n k queue₀ via₀ queue via
@@ -186,20 +166,6 @@ pub record Along (lines x n k s : ℕ) (g : Groups) (queue₀ via₀ queue via :
   pub spread : Spread lines g s (at via) x
 
 module _ (lines x n : ℕ) (g : Groups) (heads nexts queue₀ via₀ : List ℕ) (a : ScanFrom lines x n g heads nexts queue₀ via₀) where
-  x_small : x < 2048
-  x_small = omega (arith, a.standing.inside, a.standing.sound.few)
-
-  pub along_start : Along lines x n n (at heads x) g queue₀ via₀ queue₀ via₀
-  along_start =
-      let f = a.chains.heads_are x x_small in
-      record {
-        further = record { reach = a.standing.reach; more = omega arith; same = λ i o. refl; still = λ i o. o };
-        few = a.standing.sound.few;
-        upto = f.upto;
-        here = f.at;
-        spread = λ j h e. absurd (f.between j (omega arith) h e);
-      }
-
   module _ (k s : ℕ) (queue via : List ℕ) (o : Along lines x n k s g queue₀ via₀ queue via) where
     pub along_looking : s < 2 * lines → LookFrom lines x s k g queue via
     along_looking h =
@@ -219,33 +185,6 @@ module _ (lines x n : ℕ) (g : Groups) (heads nexts queue₀ via₀ : List ℕ)
           here = o.here h;
         }
 
-    module _ (h : s < 2 * lines) where
-      next : Follows (2 * lines) (leaves g) x (s + 1) (at nexts s)
-      next = subst (λ (v : ℕ). Follows (2 * lines) (leaves g) v (s + 1) (at nexts s)) (o.here h) (a.chains.nexts_are s h)
-
-      pub along_less : 2 * lines - at nexts s < 2 * lines - s
-      along_less = omega (arith, next.from)
-
-      pub along_more : (k' : ℕ) (queue' via' : List ℕ)
-          → Looked lines s k k' g queue via queue' via' → Along lines x n k' (at nexts s) g queue₀ via₀ queue' via'
-      along_more k' queue' via' l =
-          record {
-            further = further_then o.further l.further;
-            few = o.few;
-            upto = next.upto;
-            here = next.at;
-            spread = λ j u e.
-                cases (lt_or j s)
-                (λ z. l.further.still (arrives g j) (o.spread j z e))
-                (λ z.
-                cases (eq_or j s)
-                (λ q. rw q l.met)
-                (λ d. let d' : j ≢ s = d in absurd (next.between j (omega arith) u e)));
-          }
-
-    pub along_done : 2 * lines ≤ s → Scanned lines x n k g queue₀ via₀ queue via
-    along_done h = record { further = o.further; spread = λ j u e. o.spread j (omega arith) e }
-
 -- Looks from one line of the queue after the other
 
 -- from the places before `head` all half-steps are looked along
@@ -258,37 +197,6 @@ pub record Flood (lines b head n : ℕ) (g : Groups) (queue via : List ℕ) : Ty
   pub spread : (i : ℕ) → i < head → Spread lines g (2 * lines) (at via) (at queue i)
 
 module _ {lines b d : ℕ} {g : Groups} {heads nexts via₀ : List ℕ} (a : Unflooded lines b d g heads nexts via₀) where
-  pub flood_start : Flood lines b 0 1 g (set (replicate {A = ℕ} 2048 0) 0 b) (set via₀ b b)
-  flood_start =
-      let queue = replicate {A = ℕ} 2048 0 in
-      let long : length queue ≡ 2048 = length-replicate {A = ℕ} 2048 0 in
-      let first : at (set queue 0 b) 0 ≡ b = stored queue 0 b (omega arith) in
-      let own : at (set via₀ b b) b ≡ b = stored via₀ b b (omega (arith, a.root, a.sound.few, a.vias)) in
-      let h = a.root in
-      record {
-        few = a.sound.few;
-        most = omega arith;
-        reach = record {
-          queues = length-set queue 0 b ∙ long;
-          vias = length-set via₀ b b ∙ a.vias;
-          queued = record {
-            some = omega arith;
-            inside = λ i h. let e : i ≡ 0 = omega arith in rw (e, first) a.root;
-            once = λ i j hi hj e. omega arith;
-            met = λ i h. let e : i ≡ 0 = omega arith in rw (e, first, own) a.root;
-            spot = λ x h m.
-                cases (eq_or x b)
-                (λ e. (0, omega arith, first ∙ sym e))
-                (λ n. absurd (omega (arith, beside via₀ b b x n, a.fresh x h)));
-            earlier = λ i k h. absurd (omega arith);
-          };
-          twig = λ i k h. absurd (omega arith);
-        };
-        root = first;
-        ahead = omega arith;
-        spread = λ i h. absurd (omega arith);
-      }
-
   module _ {head n : ℕ} {queue via : List ℕ} (f : Flood lines b head n g queue via) where
     -- no half_step leads out of the queue: then all that a way leads to is reached
     all_reached : n ≤ head → at via d < lines
@@ -347,6 +255,3 @@ module _ {lines b d : ℕ} {g : Groups} {heads nexts via₀ : List ℕ} (a : Unf
                 (λ q. k.still (arrives g s) (f.spread i q s o (e ∙ k.same i (omega arith))))
                 (λ q. let y : i ≡ head = omega arith in w.spread s o (e ∙ ap (at queue') y ∙ k.same head l));
           }
-
-    pub flood_done : at via d < lines → Found lines b d g via
-    flood_done h = record { size = n; queue = queue; reach = f.reach; root = f.root; goal = h }

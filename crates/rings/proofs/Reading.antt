@@ -5,20 +5,13 @@ use mathlib.Core.Logic.{◌≢◌}
 use mathlib.Core.Path.{◌≡◌, sym, ◌∙◌, ap}
 use Prim.Native.Nat.{ℕ, suc, ◌+◌, ◌-◌, ◌*◌, ◌%◌, ◌≤◌, ◌<◌}
 use native.Mathlib.Omega.{arith}
-use denote.Enum.Bare.{sameb}
-use lib.Dec.{leb}
 use lib.ListN.{set}
-use borrow.Author.Tests.{eq-eqb, ne_eqb, leb-true, leb-false}
+use borrow.Author.Tests.{eq-eqb, ne_eqb}
 use Rattle.laws.specs.Lists.{at}
-use Rattle.laws.proofs.Cases.{cases, bool, eq_or}
-use Rattle.side.specs.Sides.{code}
-use Rattle.side.specs.contracts.Wants.{the_type}
-use Rattle.side.specs.declared.Wants.{Wants}
-use Rattle.side.specs.declared.Wants.TheVariants.{Same, Different}
 use Rattle.groups.specs.Groups.{columns}
 use Rattle.groups.specs.declared.Groups.{Groups}
 use Rattle.groups.proofs.Filling.{Filled, filled_more}
-use Rattle.rings.specs.Rings.{LowestPlace, wrap, kind_of, spot_of, link_of, Spot, StepPlace, Upward, Readable, TracedLines, TracedKinds}
+use Rattle.rings.specs.Rings.{LowestPlace, wrap, kind_of, spot_of, link_of, Spot, StepPlace, Readable, TracedLines, TracedKinds}
 use Rattle.rings.proofs.Circles.{wrap_low, wrap_high, wrap_within}
 
 -- Places round the circle
@@ -60,38 +53,6 @@ pub record Seen (n i : ℕ) (chain : List ℕ) (m : ℕ) : Type 0 where
   pub least : LowestPlace i (at chain) m
 
 module _ (n : ℕ) (chain : List ℕ) where
-  pub seen_one : 0 < n → Seen n 1 chain 0
-  seen_one h =
-      record { some = omega arith; upto = omega arith; least = record { within = omega arith; low = λ i o. let e : i ≡ 0 = omega arith in rw e (omega arith) } }
-
-  module _ (i m : ℕ) (s : Seen n i chain m) (h : i < n) where
-    pub lowest_inside : n ≤ 2048 → m < 2048
-    lowest_inside o = omega (arith, s.least.within)
-
-    pub seen_lower : at chain i < at chain m → Seen n (i + 1) chain i
-    seen_lower l =
-        record {
-          some = omega arith;
-          upto = omega arith;
-          least =
-              record {
-                within = omega arith;
-                low = λ j o. cases (eq_or j i) (λ e. rw e (omega arith)) (λ d. let d' : j ≢ i = d in omega (arith, s.least.low j (omega arith)));
-              };
-        }
-
-    pub seen_other : at chain m ≤ at chain i → Seen n (i + 1) chain m
-    seen_other l =
-        record {
-          some = omega arith;
-          upto = omega arith;
-          least =
-              record {
-                within = omega (arith, s.least.within);
-                low = λ j o. cases (eq_or j i) (λ e. rw e l) (λ d. let d' : j ≢ i = d in s.least.low j (omega arith));
-              };
-        }
-
   pub seen_all : (i m : ℕ) → Seen n i chain m → n ≤ i → LowestPlace n (at chain) m
   seen_all i m s h = let e : i ≡ n = omega (arith, s.upto) in rw e at s.least
 
@@ -102,12 +63,6 @@ module _ (n k : ℕ) (g : Groups) (chain : List ℕ) (i : ℕ) where
   unfolding kind_of
   kind_home e = rw (eq-eqb (suc i) n (omega arith))
 
-  pub kind_here : Readable n chain → i < n → at chain i < 2048
-  kind_here t h = t.small i h
-
-  pub kind_there : Readable n chain → i < n → (i + 1 ≡ n → ⊥) → at chain (i + 1) < 2048
-  kind_there t h d = let d' : i + 1 ≢ n = d in t.small (i + 1) (omega arith)
-
   pub kind_on : (r : ℕ) → (i + 1 ≡ n → ⊥) → r ≡ ((columns g).parity (at chain i) + (columns g).parity (at chain (i + 1))) % 2
       → r ≡ kind_of (columns g).parity (at chain) n k i
   unfolding kind_of
@@ -117,21 +72,6 @@ module _ (n k : ℕ) (g : Groups) (chain : List ℕ) (i : ℕ) where
       rw (ne_eqb (suc i) n (λ q. omega arith), ← z) e
 
 -- The direction
-
-module _ (n m k x y : ℕ) where
-  pub upward_two : (z : Wants) → n ≡ 2 → code z ≡ k → Upward n k x y (sameb the_type z Same)
-  upward_two Same e q = (λ _. sym q, λ o. absurd (o e))
-  upward_two Different e q = (λ _ o. omega (arith, q, o), λ o. absurd (o e))
-
-  larger : (n ≡ 2 → ⊥) → Upward n k x y (leb x y)
-  larger d =
-      cases (bool (leb x y))
-      (λ t. rw t (λ e. absurd (d e), λ o. leb-true x y t))
-      (λ f. rw f (λ e. absurd (d e), λ o. omega (arith, leb-false x y f)))
-
-pub upward_more : (n m k r r' : ℕ) (chain : List ℕ) → r ≡ wrap n (m + 1) → r' ≡ wrap n (m + n - 1) → (n ≡ 2 → ⊥)
-    → Upward n k (at chain (wrap n (m + 1))) (at chain (wrap n (m + n - 1))) (leb (at chain r) (at chain r'))
-upward_more n m k r r' chain e e' d = rw (e, e') (larger n m k (at chain (wrap n (m + 1))) (at chain (wrap n (m + n - 1))) d)
 
 module _ (n m r : ℕ) (chain : List ℕ) (t : Readable n chain) (h : m < n) where
   pub next_inside : r ≡ wrap n (m + 1) → (n ≡ 2 → ⊥) → r < 2048

@@ -1,7 +1,7 @@
 -- The turns one after the other: along the chains of the back lines by rising ends, every one is taken once all earlier ones are.
 use mathlib.Core.List.{List}
 use mathlib.Core.Logic.{inl, inr}
-use mathlib.Core.Path.{◌≡◌, sym, ◌∙◌, subst}
+use mathlib.Core.Path.{◌≡◌, ◌∙◌, subst}
 use Prim.Native.Nat.{ℕ, ◌+◌, ◌-◌, ◌≤◌, ◌<◌}
 use native.Mathlib.Omega.{arith}
 use Rattle.std.specs.Prelude.{Result, Ok, Err, ⊤}
@@ -20,7 +20,7 @@ use Rattle.links.proofs.Outcomes.{torn, holds_of}
 use Rattle.spans.proofs.Buckets.{chain_line, chain_between, last_empty}
 use Rattle.fork.specs.declared.Forks.{Forks}
 use Rattle.spans.specs.declared.Jumps.{Jumps}
-use Rattle.rising.specs.Inside.{Rising, Risen, RisesBefore, Raised, Settleable}
+use Rattle.rising.specs.Inside.{Rising, Risen, RisesBefore, Raised}
 
 -- the tables tell the same of two places in the order with the same back lines before them
 raised_same : {S : Tree} {x b y d : ℕ} {bottoms : List ℕ} {g : Groups} → ((c : ℕ) → BackLine S c → RisesBefore S x b c → RisesBefore S y d c)
@@ -144,21 +144,6 @@ module _ {S : Tree} {vertices : ℕ} {heights : List ℕ} {jumps : Jumps} {heads
 
         own : BackLine S b × (end S b ≡ x)
         own = w.line b_in
-
-        rise_settleable : Settleable S b heights jumps forks bottoms g
-        rise_settleable =
-            record {
-              sinkable = record {
-                finished = s.finished;
-                each_height = s.each_height;
-                below = s.below;
-                spans = s.spans;
-                back_line = own.0;
-                long = w.raised.long;
-              };
-              raised = subst (λ (y : ℕ). Raised S y b bottoms g) (sym own.1) w.raised;
-              sound = w.sound;
-            }
 
         follows : Follows S.lines (at forks.stop) x (b + 1) (at nexts b)
         follows =

@@ -15,7 +15,7 @@ use Rattle.network.specs.Network.{first, second}
 use Rattle.tree.specs.Tree.{Tree, higher, lower}
 use Rattle.tree.specs.Returns.{end}
 use Rattle.tree.specs.Words.{TreeLine, BackLine}
-use Rattle.fork.specs.Inside.{Long}
+use Rattle.fork.specs.Inside.{LongForks}
 use Rattle.fork.specs.declared.Forks.{Forks}
 use Rattle.spans.specs.Inside.{Spannable, Spanned}
 
@@ -38,7 +38,7 @@ pub record Told (S : Tree) (j leaves stop low high top : ℕ) : Type 0 where
 
 -- the lines before k have theirs
 pub record Spanning (S : Tree) (t : Forks) (k : ℕ) : Type 0 where
-  pub long : Long t
+  pub long : LongForks t
   pub each : (j : ℕ) → j < k → Told S j (at t.source j) (at t.stop j) (at t.low j) (at t.high j) (at t.top j)
 
 module _ {S : Tree} {lines : ℕ} {ends kinds heights : List ℕ} {forks₀ : Forks} (s : Spannable S lines ends kinds heights forks₀) where

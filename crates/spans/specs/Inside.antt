@@ -7,7 +7,7 @@ use Rattle.tree.specs.Tree.{Tree, higher, lower}
 use Rattle.tree.specs.Words.{TreeLine, BackLine}
 use Rattle.tree.specs.Returns.{end}
 use Rattle.fork.specs.Link.{rival}
-use Rattle.fork.specs.Inside.{Finished, Kinds, Heights, Parents, Long, Spans}
+use Rattle.fork.specs.Inside.{Finished, Kinds, Heights, Parents, LongForks, Spans}
 use Rattle.fork.specs.declared.Forks.{Forks}
 use Rattle.spans.specs.declared.Jumps.{Jumps}
 
@@ -56,7 +56,7 @@ pub record Spannable (S : Tree) (lines : ℕ) (ends kinds heights : List ℕ) (f
   pub ended : Directed S ends heights
   pub each_kind : Kinds S kinds
   pub each_height : Heights S heights
-  pub long : Long forks
+  pub long : LongForks forks
 
 pub record Spanned (S : Tree) (forks' : Forks) : Type 0 where
   pub spans : Spans S forks'
