@@ -4,3 +4,4 @@ pub mod Lines
 pub mod Sifting
 pub mod Refusing
 pub mod Naming
+pub mod Telling
