@@ -1,5 +1,6 @@
 // What first choice, next choice and draw begin with: the search, and the groups of the back lines.
-ghost use Rattle.choice.specs.Inside.{Gathers};
+ghost use Rattle.fork.specs.Inside.{LongForks};
+ghost use Rattle.choice.specs.Inside.{BlankBeginning, Gathers};
 
 use fork::Forks;
 use groups::Groups;
@@ -16,33 +17,35 @@ pub struct Beginning {
     pub outcome: Result<(), Tear>,
 }
 
-// Searches the network and groups its back lines.
-pub fn begin(vertices: usize, ends: &[u16]) -> Result<Beginning, Refusal>
-    ensures { Gathers vertices ends.now result }
+impl Beginning {
+    // Zeros, to be lent to `begin`.
+    pub fn blank() -> Beginning
+        ensures { BlankBeginning result }
+    {
+        Beginning {
+            finds: Finds::blank(),
+            forks: Forks::blank(),
+            groups: Groups::blank(),
+            outcome: Ok(()),
+        }
+    }
+}
+
+// Searches the network and groups its back lines, and writes over what is lent. (Lent and not handed out, which would copy it twice on its way.)
+pub fn begin(vertices: usize, ends: &[u16], beginning: &mut Beginning) -> Result<(), Refusal>
+    requires { LongForks beginning.old.forks }
+    ensures { Gathers vertices ends.now beginning.new result }
 {
-    let finds = search::explore(vertices, ends)?;
-    let mut forks = Forks {
-        source: [0; 2048],
-        stop: [0; 2048],
-        low: [0; 2048],
-        high: [0; 2048],
-        top: [0; 2048],
-    };
-    let mut groups = Groups::blank();
-    let outcome = descents::group(
+    search::explore(vertices, ends, &mut beginning.finds)?;
+    beginning.outcome = descents::group(
         vertices,
         ends.len() / 2,
         ends,
-        &finds.kinds,
-        &finds.heights,
-        &finds.parents,
-        &mut forks,
-        &mut groups,
+        &beginning.finds.kinds,
+        &beginning.finds.heights,
+        &beginning.finds.parents,
+        &mut beginning.forks,
+        &mut beginning.groups,
     );
-    Ok(Beginning {
-        finds,
-        forks,
-        groups,
-        outcome,
-    })
+    Ok(())
 }

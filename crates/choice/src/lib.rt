@@ -8,7 +8,7 @@ pub mod beginning;
 ghost use Rattle.network.specs.Numbers.{answered};
 ghost use Rattle.choice.specs.Calls.{FirstChoice, NextChoice};
 
-use crate::beginning::begin;
+use crate::beginning::{Beginning, begin};
 use network::Refusal;
 
 // Writes the first aligned choice, and answers how many back lines there are. Where no choice obeys the fork rule it writes a ring of constraints that
@@ -39,7 +39,8 @@ pub fn first(
     if ring_kinds.len() < lines {
         return Err(Refusal::Cramped);
     }
-    let beginning = begin(vertices, ends)?;
+    let mut beginning = Beginning::blank();
+    begin(vertices, ends, &mut beginning)?;
     match beginning.outcome {
         Ok(()) => {
             beginning.groups.first(lines, choice);
@@ -74,7 +75,8 @@ pub fn next(vertices: usize, ends: &[u16], choice: &mut [u8]) -> Result<usize, R
     if choice.len() < lines {
         return Err(Refusal::Cramped);
     }
-    let beginning = begin(vertices, ends)?;
+    let mut beginning = Beginning::blank();
+    begin(vertices, ends, &mut beginning)?;
     if beginning.outcome.is_err() {
         return Err(Refusal::Unaligned);
     }

@@ -18,9 +18,10 @@ use Rattle.std.specs.Prelude.{Option, Some}
 use Rattle.fans.specs.declared.chains.Chains.{Chains}
 use Rattle.fans.specs.declared.rows.Row.{Row}
 use Rattle.network.specs.Inside.{Names}
-use Rattle.fans.specs.Chains.{list_in, BlankRow, Appended}
+use Rattle.fans.specs.Chains.{list_in, Appended}
 use Rattle.fans.proofs.Hanging.{chained_short, Leads, leads, Ahead, ahead, remaining, remaining_less, appended_none, appended_join}
-use Rattle.clockwise.specs.Laying.{item_in, Besides, spread_in, Spreads, first_in, Begins, lines_at, Layable}
+use Rattle.clockwise.specs.Laying.{item_in, Besides, spread_in, Spreads, first_in, Begins, lines_at, Layable, Unlaid, LongOrder}
+use Rattle.clockwise.specs.declared.Order.{Order}
 
 -- The lines of a fan
 
@@ -100,6 +101,9 @@ module _ {v : ℕ} {uppers : List ℕ} {fans groups : Chains} {order₀ order : 
 
 -- All vertices
 
+pub unlaid_long : {order : Order} → Unlaid order → LongOrder order
+unlaid_long u = record { lines = u.row.long; starts = ap length u.starts ∙ length-replicate {A = ℕ} 513 0 }
+
 pub record Laying (n : ℕ) (parents uppers : List ℕ) (fans groups : Chains) (order : Row) (starts : List ℕ) (v : ℕ) : Type 0 where
   pub order_long : length order.lines ≡ 4096
   pub starts_long : length starts ≡ 513
@@ -112,16 +116,16 @@ module _ {n : ℕ} {parents uppers : List ℕ} {fans groups : Chains} (P : Layab
   abbrev list : ℕ → List ℕ
   list = lines_at parents uppers fans groups
 
-  pub laying_start : {order : Row} → BlankRow order → Laying n parents uppers fans groups order (replicate 513 0) 0
-  laying_start {order} blank =
+  pub laying_start : {order : Order} → LongOrder order → Laying n parents uppers fans groups (record { lines = order.row.lines; count = 0 }) (set order.starts 0 0) 0
+  laying_start {order} long =
       let none : gather list (upto 0) ≡ [] = nothing in
       record {
-        order_long = blank.long;
-        starts_long = length-replicate {A = ℕ} 513 0;
-        here = blank.none ∙ sym (ap length none);
-        fits = omega (arith, blank.none);
-        written = ap (λ (y : ℕ). take y order.lines) blank.none ∙ sym none;
-        starts_at = λ u h. let e : u ≡ 0 = omega arith in rw e (sym (ap length none));
+        order_long = long.lines;
+        starts_long = length-set order.starts 0 0 ∙ long.starts;
+        here = sym (ap length none);
+        fits = omega arith;
+        written = sym none;
+        starts_at = λ u h. let e : u ≡ 0 = omega arith in rw e (get_or-set_same order.starts 0 0 0 (omega (arith, long.starts)) ∙ sym (ap length none));
       }
     where
       nothing : gather list (upto 0) ≡ []

@@ -1,12 +1,13 @@
 -- The order written down from fans and groups of lines. (What functions inside ask of each other.)
-use Rattle.std.specs.Prelude.{cond, List, [], ◌∷◌, ◌++◌, ◌≡◌, ℕ, ◌+◌, ◌*◌, ◌≤◌, ◌<◌, eqb, get_or, length, take}
+use Rattle.std.specs.Prelude.{cond, List, [], ◌∷◌, ◌++◌, ◌≡◌, ℕ, ◌+◌, ◌*◌, ◌≤◌, ◌<◌, eqb, get_or, length, replicate, take}
 use Rattle.laws.specs.Lists.{upto}
 use Rattle.laws.specs.Sorting.{gather}
 use Rattle.side.specs.Sides.{left, right}
 use Rattle.network.specs.Marks.{absent}
 use Rattle.fans.specs.declared.chains.Chains.{Chains}
 use Rattle.fans.specs.declared.rows.Row.{Row}
-use Rattle.fans.specs.Chains.{list_in, ListsChained}
+use Rattle.fans.specs.Chains.{list_in, ListsChained, BlankRow}
+use Rattle.clockwise.specs.declared.Order.{Order}
 
 -- A line with its company: beside a tree line stand the two groups of the vertex above it.
 abbrev pub item_in : List ℕ → Chains → ℕ → List ℕ
@@ -55,6 +56,16 @@ pub record Layable (n : ℕ) (parents uppers : List ℕ) (fans groups : Chains) 
   pub fanned : ListsChained fans (list_in fans)
   pub grouped : ListsChained groups (list_in groups)
   pub room : length (gather (lines_at parents uppers fans groups) (upto n)) ≤ 4096
+
+-- Nothing is written yet.
+pub record Unlaid (order : Order) : Type 0 where
+  pub row : BlankRow order.row
+  pub starts : order.starts ≡ replicate 513 0
+
+-- No place is missing.
+pub record LongOrder (order : Order) : Type 0 where
+  pub lines : length order.row.lines ≡ 4096
+  pub starts : length order.starts ≡ 513
 
 -- The lists of the first n vertices stand one after the other, and it is known where each begins.
 pub record LaidOut (n : ℕ) (list : ℕ → List ℕ) (order starts : List ℕ) : Type 0 where

@@ -11,43 +11,59 @@ mod ways;
 ghost use Rattle.laws.specs.Lists.{at};
 ghost use Rattle.tree.specs.Tree.{Tree};
 ghost use Rattle.fans.specs.Chains.{Appended};
-ghost use Rattle.clockwise.specs.Laying.{item_in, Besides, spread_in, Spreads, first_in, Begins, lines_at, Layable, LaidOut};
+ghost use Rattle.clockwise.specs.Laying.{item_in, Besides, spread_in, Spreads, first_in, Begins, lines_at, Layable, Unlaid, LongOrder, LaidOut};
 ghost use Rattle.clockwise.specs.Order.{order_at};
 ghost use Rattle.clockwise.specs.Ordering.{Orderable};
 
 use fans::chains::Chains;
 use fans::rows::Row;
 use fork::Forks;
-use network::named;
+use network::{Absent, named};
 use side::Side;
 
 // The order of the lines at the vertices.
 #[derive(Drop)]
 pub struct Order {
-    // The lines, vertex by vertex. What stands behind those of the last vertex means nothing.
-    pub lines: [u16; 4096],
+    // The lines, vertex by vertex.
+    pub row: Row,
     // Where each vertex's part begins; after the last vertex, where it ends.
     pub starts: [u16; 513],
 }
 
-// The clockwise order that a choice gives, from the tables of a finished search and of the forks.
+impl Order {
+    // Of no vertex, to be lent to `ordered`.
+    pub fn empty() -> Order
+        ensures { Unlaid result }
+    {
+        Order {
+            row: Row::empty(),
+            starts: [0; 513],
+        }
+    }
+}
+
+// The clockwise order that a choice gives, from the tables of a finished search and of the forks. Written over what is lent.
 pub fn ordered(
     vertices: usize,
     lines: usize,
     parents: &[u16; 512],
     forks: &Forks,
     choice: &[u8],
-) -> Order
+    order: &mut Order,
+)
     ghost S: { Tree }
-    requires { Orderable S vertices lines parents.now forks.now choice.now }
-    ensures { LaidOut vertices (order_at S (at choice.now)) result.lines result.starts }
+    requires orderable { Orderable S vertices lines parents.now forks.now choice.now }
+    requires long { LongOrder order.old }
+    ensures { LaidOut vertices (order_at S (at choice.now)) order.new.row.lines order.new.starts }
 {
-    let out = fans::fanned(vertices, lines, forks, choice);
-    let uppers = ways::raised(vertices, parents);
+    let mut out = Chains::empty();
+    fans::fanned(vertices, lines, forks, choice, &mut out);
+    let mut uppers = [Absent::ENTRY; 2048];
+    ways::raised(vertices, parents, &mut uppers);
     let mut path = [0u16; 512];
     let mut groups = Chains::empty();
     walks::walk(0, 0, forks, &uppers, choice, &out, &mut path, &mut groups);
-    laid(vertices, parents, &uppers, &out, &groups)
+    laid(vertices, parents, &uppers, &out, &groups, order)
 }
 
 // The whole order.
@@ -57,21 +73,19 @@ fn laid(
     uppers: &[u16; 2048],
     fans: &Chains,
     groups: &Chains,
-) -> Order
-    requires { Layable vertices parents.now uppers.now fans.now groups.now }
+    order: &mut Order,
+)
+    requires layable { Layable vertices parents.now uppers.now fans.now groups.now }
+    requires long { LongOrder order.old }
     ensures { LaidOut vertices (lines_at parents.now uppers.now fans.now groups.now)
-        result.lines result.starts }
+        order.new.row.lines order.new.starts }
 {
-    let mut order = Row::empty();
-    let mut starts = [0; 513];
+    order.row.count = 0;
+    order.starts[0] = 0;
     for v in 0..vertices {
-        begun(v, parents, &mut order);
-        spread(v, uppers, fans, groups, &mut order);
-        starts[v + 1] = order.count as u16;
-    }
-    Order {
-        lines: order.lines,
-        starts,
+        begun(v, parents, &mut order.row);
+        spread(v, uppers, fans, groups, &mut order.row);
+        order.starts[v + 1] = order.row.count as u16;
     }
 }
 

@@ -14,6 +14,7 @@ use fork::Forks;
 use groups::Groups;
 use links::Tear;
 use network::Absent;
+use network::chains::Chains;
 use spans::Jumps;
 
 // Groups the back lines of the tree of a finished search, and fills the table of forks. (Where a link tears, nothing is said of that table.)
@@ -59,7 +60,12 @@ fn walk(
         held: [Absent::ENTRY; 512],
     };
     let mut bottoms = [Absent::ENTRY; 512];
-    let chains = spans::chain(lines, forks);
+    let none = lines as u16;
+    let mut chains = Chains {
+        heads: [none; 513],
+        nexts: [none; 2048],
+    };
+    spans::chain(lines, forks, &mut chains);
     spans::lower(vertices, heights, parents, forks, &mut jumps);
     rising::rise(
         vertices,

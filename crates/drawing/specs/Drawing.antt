@@ -1,7 +1,8 @@
 -- The whole drawing, from the tables of a finished search. (What functions inside ask of each other.)
-use Rattle.std.specs.Prelude.{Result, Ok, Err, [], false, List, ◌≡◌, ℕ, ◌+◌, ◌*◌, ◌/◌, ◌≤◌, length, take}
+use Rattle.std.specs.Prelude.{Result, Ok, Err, ⊤, [], false, List, ◌≡◌, ℕ, ◌+◌, ◌*◌, ◌/◌, ◌≤◌, length, replicate, take}
 use Rattle.laws.specs.Checks.{Check}
 use Rattle.laws.specs.Lists.{at}
+use Rattle.network.specs.Marks.{absent}
 use Rattle.network.specs.Network.{network}
 use Rattle.network.specs.Numbers.{Checked, refusal_number}
 use Rattle.network.specs.declared.Refusal.{Refusal}
@@ -13,6 +14,7 @@ use Rattle.meshes.specs.Meshes.{mesh_count, mesh_list, size_list}
 use Rattle.meshes.specs.Inside.{Whole}
 use Rattle.clockwise.specs.Order.{order_at, flat}
 use Rattle.clockwise.specs.Ordering.{Orderable}
+use Rattle.clockwise.specs.Laying.{LongOrder}
 use Rattle.fork.specs.declared.Forks.{Forks}
 use Rattle.drawing.specs.declared.sketches.Drawing.{Drawing}
 use Rattle.drawing.specs.Draw.{Balanced}
@@ -22,6 +24,12 @@ pub record Sketchable (S : Tree) (n : ℕ) (ends parents : List ℕ) (forks : Fo
   pub orderable : Orderable S n (length ends / 2) parents forks choice
   pub fits : Fit (network n ends)
   pub whole : Whole (network n ends) S.live (order_at S (at choice))
+
+-- No mesh has a direction yet, or a line.
+pub record Undrawn (d : Drawing) : Type 0 where
+  pub order : LongOrder d.order
+  pub no_mesh : d.mesh ≡ replicate 4096 absent
+  pub no_size : d.sizes ≡ replicate 4097 0
 
 -- The flat order, how many meshes there are, the mesh of each direction, and the size of each mesh.
 pub record Drawn (S : Tree) (n : ℕ) (ends choice order : List ℕ) (count : ℕ) (mesh sizes : List ℕ) : Type 0 where
@@ -42,7 +50,7 @@ Sketched n ends choice number count order mesh sizes =
     (Check (Balanced (network n ends) choice) ((number ≡ 0) × Drawn (tree_in (network n ends)) n ends choice order count mesh sizes) (number ≡ 10))
     (number ≡ 8))
 
--- .. as a result tells of it.
-abbrev pub Sketches : ℕ → List ℕ → List ℕ → Result Drawing Refusal → Type 0
-Sketches n ends choice (Ok s) = Sketched n ends choice 0 s.count s.order s.mesh s.sizes
-Sketches n ends choice (Err r) = Sketched n ends choice (refusal_number r) 0 [] [] []
+-- .. as a result tells of it, with the drawing that was lent.
+abbrev pub Sketches : ℕ → List ℕ → List ℕ → Drawing → Result ⊤ Refusal → Type 0
+Sketches n ends choice d (Ok r) = Sketched n ends choice 0 d.count d.order.row.lines d.mesh d.sizes
+Sketches n ends choice d (Err r) = Sketched n ends choice (refusal_number r) 0 [] [] []

@@ -13,8 +13,9 @@ ghost use Rattle.drawing.specs.Draw.{cramped_draw, Draw};
 ghost use Rattle.drawing.specs.Settling.{Settling, Wrote};
 
 use crate::sketches::{Drawing, sketch};
-use network::Refusal;
+use clockwise::Order;
 use network::copies::lay;
+use network::{Absent, Refusal};
 
 // Writes the clockwise order that an aligned choice gives, the mesh of each direction and the size of each mesh, and answers how many meshes there are.
 pub fn draw(
@@ -38,7 +39,13 @@ pub fn draw(
     if is_cramped(lines, choice.len(), order.len(), mesh.len(), sizes.len()) {
         return Err(Refusal::Cramped);
     }
-    let drawing = sketch(vertices, ends, choice)?;
+    let mut drawing = Drawing {
+        order: Order::empty(),
+        mesh: [Absent::ENTRY; 4096],
+        count: 0,
+        sizes: [0; 4097],
+    };
+    sketch(vertices, ends, choice, &mut drawing)?;
     hand_out(lines, &drawing, order, mesh, sizes);
     Ok(drawing.count)
 }
@@ -63,11 +70,11 @@ fn is_cramped(lines: usize, choice: usize, order: usize, mesh: usize, sizes: usi
 
 // Writes the drawing to the lent buffers.
 fn hand_out(lines: usize, drawing: &Drawing, order: &mut [u16], mesh: &mut [u16], sizes: &mut [u16])
-    requires { Settling lines drawing.now.count drawing.now.order drawing.now.mesh drawing.now.sizes order.old mesh.old sizes.old }
-    ensures { Wrote lines drawing.now.count drawing.now.order drawing.now.mesh drawing.now.sizes
+    requires { Settling lines drawing.now.count drawing.now.order.row.lines drawing.now.mesh drawing.now.sizes order.old mesh.old sizes.old }
+    ensures { Wrote lines drawing.now.count drawing.now.order.row.lines drawing.now.mesh drawing.now.sizes
         order.old mesh.old sizes.old order.new mesh.new sizes.new }
 {
-    lay(&drawing.order, 2 * lines, order);
+    lay(&drawing.order.row.lines, 2 * lines, order);
     lay(&drawing.mesh, 2 * lines, mesh);
     lay(&drawing.sizes, drawing.count, sizes);
 }

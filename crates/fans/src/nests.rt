@@ -1,22 +1,21 @@
 // The rank of each line, by which the lines that leave a vertex nest, and the side of each line. Both are read off the table of forks.
 //
 // (Each table has its own loop of one line: a function that fills a table by a closure is no plainer, since its callers prove what each call of theirs gives.)
-ghost use Rattle.std.specs.Prelude.{◌≡◌, ◌<◌};
+ghost use Rattle.std.specs.Prelude.{◌≡◌, ◌<◌, length};
 ghost use Rattle.fans.specs.Nesting.{Tabulated, rank_of, rank_in, Nestable, side_in, Sidable};
 
 use fork::{Forks, NOWHERE};
 use side::Side;
 
 // By low, and at equal low those whose returns end at one height before those with more.
-pub(crate) fn ranked(lines: usize, forks: &Forks) -> [u16; 2048]
-    requires { Nestable lines forks.now }
-    ensures { Tabulated (rank_in forks.now) lines result }
+pub(crate) fn ranked(lines: usize, forks: &Forks, ranks: &mut [u16; 2048])
+    requires nestable { Nestable lines forks.now }
+    requires long { length ranks.old ≡ 2048 }
+    ensures { Tabulated (rank_in forks.now) lines ranks.new }
 {
-    let mut ranks = [0; 2048];
     for k in 0..lines {
         ranks[k] = rank(forks.low[k] as usize, forks.high[k] as usize) as u16;
     }
-    ranks
 }
 
 fn rank(low: usize, high: usize) -> usize
@@ -27,15 +26,14 @@ fn rank(low: usize, high: usize) -> usize
 }
 
 // A back line has its own side. A tree line has that of its return that ends highest; without a return it is right.
-pub(crate) fn sided(lines: usize, forks: &Forks, choice: &[u8]) -> [u8; 2048]
-    requires { Sidable lines choice.now }
-    ensures { Tabulated (side_in lines forks.now choice.now) lines result }
+pub(crate) fn sided(lines: usize, forks: &Forks, choice: &[u8], sides: &mut [u8; 2048])
+    requires sidable { Sidable lines choice.now }
+    requires long { length sides.old ≡ 2048 }
+    ensures { Tabulated (side_in lines forks.now choice.now) lines sides.new }
 {
-    let mut sides = [0; 2048];
     for k in 0..lines {
         sides[k] = side(lines, k, forks, choice);
     }
-    sides
 }
 
 fn side(lines: usize, k: usize, forks: &Forks, choice: &[u8]) -> u8

@@ -1,14 +1,20 @@
--- What a caller that knows the tables of a finished search shows of the tree in them.
+-- What a caller that knows the tables of a finished search shows of the tree in them, and of a blank table of forks.
 use mathlib.Core.List.{List}
 use mathlib.Core.Logic.{◌≢◌}
-use mathlib.Core.Path.{refl}
+use mathlib.Core.Path.{refl, ap, ◌∙◌}
 use Prim.Native.Nat.{ℕ}
 use native.Mathlib.Omega.{arith}
-use lib.ListN.{get_or}
+use lib.ListN.{get_or, length, length-replicate}
 use borrow.Author.Tests.{eq-eqb, ne_eqb, eqb-true, eqb-false, lt-ltb}
 use Rattle.tree.specs.Tree.{Tree, tree_of}
 use Rattle.tree.proofs.Grown.{searched}
-use Rattle.fork.specs.Inside.{Known, Finished, Kinds, Heights, Parents}
+use Rattle.fork.specs.Inside.{Known, Finished, Kinds, Heights, Parents, LongForks, BlankForks}
+use Rattle.fork.specs.declared.Forks.{Forks}
+
+pub blank_long : {t : Forks} → BlankForks t → LongForks t
+blank_long b =
+    let long = length-replicate {A = ℕ} 2048 0 in
+    record { sources = ap length b.sources ∙ long; stops = ap length b.stops ∙ long; lows = ap length b.lows ∙ long; highs = ap length b.highs ∙ long; tops = ap length b.tops ∙ long }
 
 module _ {n m : ℕ} {ends kinds heights parents : List ℕ} (k : Known n m ends kinds heights parents) where
   abbrev S : Tree

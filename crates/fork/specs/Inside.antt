@@ -1,5 +1,5 @@
 -- Tables of a finished search, and of what lines are like. (What functions inside ask of each other.)
-use Rattle.std.specs.Prelude.{List, ◌≡◌, ℕ, ◌*◌, ◌≤◌, ◌<◌, get_or, length}
+use Rattle.std.specs.Prelude.{List, ◌≡◌, ℕ, ◌*◌, ◌≤◌, ◌<◌, get_or, length, replicate}
 use Rattle.laws.specs.Lists.{at}
 use Rattle.laws.specs.Chains.{Chained}
 use Rattle.tree.specs.Tree.{Tree}
@@ -51,6 +51,14 @@ pub record LongForks (t : Forks) : Type 0 where
   pub lows : length t.low ≡ 2048
   pub highs : length t.high ≡ 2048
   pub tops : length t.top ≡ 2048
+
+-- A table of zeros.
+pub record BlankForks (t : Forks) : Type 0 where
+  pub sources : t.source ≡ replicate 2048 0
+  pub stops : t.stop ≡ replicate 2048 0
+  pub lows : t.low ≡ replicate 2048 0
+  pub highs : t.high ≡ replicate 2048 0
+  pub tops : t.top ≡ replicate 2048 0
 
 -- Two of the columns: the vertex that the line leaves, and the height at which it ends if it is a back line; a tree line has 512, which is no height.
 pub record Spans (S : Tree) (t : Forks) : Type 0 where

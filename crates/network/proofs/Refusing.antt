@@ -18,14 +18,17 @@ refusal_some Unaligned z = absurd (omega arith)
 refusal_some Last z = absurd (omega arith)
 refusal_some Unbalanced z = absurd (omega arith)
 
+pub refusing_other : (e : Refusal) → (refusal_number e ≡ 7 → ⊥) → refusing e ≡ refused (refusal_number e)
+refusing_other Formless d = refl
+refusing_other Oversize d = refl
+refusing_other Cramped d = refl
+refusing_other Astray d = refl
+refusing_other Mispaired d = refl
+refusing_other Apart d = refl
+refusing_other (Ringed size) d = absurd (d refl)
+refusing_other Unaligned d = refl
+refusing_other Last d = refl
+refusing_other Unbalanced d = refl
+
 pub refusing_plain : (e : Refusal) → refusal_number e ≤ 6 → refusing e ≡ refused (refusal_number e)
-refusing_plain Formless h = refl
-refusing_plain Oversize h = refl
-refusing_plain Cramped h = refl
-refusing_plain Astray h = refl
-refusing_plain Mispaired h = refl
-refusing_plain Apart h = refl
-refusing_plain (Ringed size) h = absurd (omega arith)
-refusing_plain Unaligned h = refl
-refusing_plain Last h = refl
-refusing_plain Unbalanced h = refl
+refusing_plain e h = refusing_other e (λ z. omega arith)

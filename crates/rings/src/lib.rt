@@ -18,6 +18,7 @@ ghost use Rattle.rings.specs.Flooding.{Climbable, Trail, SimpleWay, Reachable};
 ghost use Rattle.rings.specs.Rings.{Showing, Shown};
 
 use groups::Groups;
+use network::chains::Chains;
 use side::Wants;
 
 // Writes the ring that the constraint between b and d closes, its lines and their kinds, and answers how many lines it has.
@@ -45,7 +46,12 @@ fn find_chain(lines: usize, b: usize, d: usize, groups: &Groups, chain: &mut [u1
     requires { Reachable lines b d groups.now chain.old }
     ensures { SimpleWay lines b d (columns groups.now) result (at chain.new) }
 {
-    let chains = steps::link_all(lines, groups);
+    let none = (2 * lines) as u16;
+    let mut chains = Chains {
+        heads: [none; 2048],
+        nexts: [none; 4096],
+    };
+    steps::link_all(lines, groups, &mut chains);
     let mut via = [lines as u16; 2048];
     flood::flood(lines, b, d, groups, &chains, &mut via);
     climb(lines, b, d, &via, chain)

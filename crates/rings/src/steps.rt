@@ -4,7 +4,7 @@
 // The half-steps that leave one line are a chain, so that a walk along it meets all of them and no other. Its contracts cite specs/Flooding.antt.
 ghost use Rattle.std.specs.Prelude.{cond, eqb, ◌≡◌, ◌*◌, ◌/◌, ◌%◌, ◌<◌};
 ghost use Rattle.laws.specs.Lists.{at};
-ghost use Rattle.laws.specs.Chains.{Chained};
+ghost use Rattle.laws.specs.Chains.{Unchained, Chained};
 ghost use Rattle.rings.specs.Flooding.{leaves, arrives, WithinLines};
 
 use groups::Groups;
@@ -36,9 +36,10 @@ fn end(s: usize, forth: &[u16; 2048], back: &[u16; 2048]) -> usize
 }
 
 // Each line's first half-step, and each half-step's next one at the same line; twice the number of lines where there is none.
-pub(crate) fn link_all(lines: usize, groups: &Groups) -> Chains<2048, 4096>
-    requires { WithinLines lines groups.now }
-    ensures { Chained 2048 4096 (2 * lines) (leaves groups.now) result.heads result.nexts }
+pub(crate) fn link_all(lines: usize, groups: &Groups, chains: &mut Chains<2048, 4096>)
+    requires within { WithinLines lines groups.now }
+    requires unchained { Unchained 2048 4096 (2 * lines) chains.old.heads chains.old.nexts }
+    ensures { Chained 2048 4096 (2 * lines) (leaves groups.now) chains.new.heads chains.new.nexts }
 {
-    Chains::by(2 * lines, |s| near_end(s, groups))
+    chains.by(2 * lines, |s| near_end(s, groups));
 }

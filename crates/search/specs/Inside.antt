@@ -1,10 +1,10 @@
 -- What functions inside ask of each other. A reader of the calls' statements need not believe any of it.
-use Rattle.std.specs.Prelude.{Result, Ok, Err, [], Bool, false, cond, not, List, ◌≡◌, ℕ, suc, ◌+◌, ◌-◌, ◌%◌, ◌≤◌, ◌<◌, eqb, get_or, set, length, take}
+use Rattle.std.specs.Prelude.{Result, ⊤, Bool, false, cond, not, List, ◌≡◌, ℕ, suc, ◌+◌, ◌-◌, ◌%◌, ◌≤◌, ◌<◌, eqb, get_or, set, length, replicate, take}
 use Rattle.laws.specs.Checks.{Check}
 use Rattle.laws.specs.Counting.{many}
 use Rattle.laws.specs.Tests.{all}
 use Rattle.network.specs.Network.{Network, network, Connected}
-use Rattle.network.specs.Numbers.{Checked, refusal_number}
+use Rattle.network.specs.Numbers.{Checked, number_of}
 use Rattle.network.specs.declared.Refusal.{Refusal}
 use Rattle.network.specs.Inside.{Fit}
 use Rattle.network.specs.Marks.{tree, unused}
@@ -24,10 +24,23 @@ search_of number kinds heights parents = record { number = number; kinds = kinds
 abbrev pub searched : Network → Search
 searched net = search_of 0 (finished net).kind (finished net).height (finished net).parent
 
--- .. that a result tells of: with a refusal nothing is said of the tables.
-abbrev pub search_in : Result Finds Refusal → Search
-search_in (Ok finds) = search_of 0 finds.kinds finds.heights finds.parents
-search_in (Err r) = search_of (refusal_number r) [] [] []
+-- .. that a result tells of, with the tables that were lent.
+abbrev pub search_in : Finds → Result ⊤ Refusal → Search
+search_in finds r = search_of (number_of r) finds.kinds finds.heights finds.parents
+
+-- Tables of zeros.
+pub record BlankFinds (finds : Finds) : Type 0 where
+  pub kinds : finds.kinds ≡ replicate 2048 0
+  pub founds : finds.found ≡ replicate 512 0
+  pub heights : finds.heights ≡ replicate 512 0
+  pub parents : finds.parents ≡ replicate 512 0
+
+-- No line is used, no vertex found.
+pub record Cleared (finds : Finds) : Type 0 where
+  pub kinds : finds.kinds ≡ replicate 2048 unused
+  pub founds : finds.found ≡ replicate 512 0
+  pub heights : finds.heights ≡ replicate 512 0
+  pub parents : finds.parents ≡ replicate 512 0
 
 -- The state of a search that stands at v.
 abbrev pub state_of : ℕ → Finds → State

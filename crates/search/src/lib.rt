@@ -12,8 +12,9 @@ ghost use Rattle.network.specs.Network.{network};
 ghost use Rattle.network.specs.Numbers.{number_of, answered};
 ghost use Rattle.network.specs.Inside.{Fit};
 ghost use Rattle.search.specs.Orient.{Orient};
-ghost use Rattle.search.specs.Inside.{Explored, Faulted, search_in, Ended, everyone};
+ghost use Rattle.search.specs.Inside.{Explored, Faulted, search_in, BlankFinds, Cleared, Ended, everyone};
 
+use network::chains::Chains;
 use network::copies::lay;
 use network::{Kind, Refusal};
 
@@ -39,7 +40,8 @@ pub fn orient(
     if heights.len() < vertices {
         return Err(Refusal::Cramped);
     }
-    let finds = explore(vertices, ends)?;
+    let mut finds = Finds::blank();
+    explore(vertices, ends, &mut finds)?;
     lay(&finds.kinds, lines, kinds);
     lay(&finds.heights, vertices, heights);
     Ok(lines + 1 - vertices)
@@ -57,38 +59,62 @@ pub struct Finds {
     pub parents: [u16; 512],
 }
 
-// The search of a network.
-pub fn explore(vertices: usize, ends: &[u16]) -> Result<Finds, Refusal>
-    ensures { Explored vertices ends.now (search_in result) }
+impl Finds {
+    // Zeros, to be lent to `explore`.
+    pub fn blank() -> Finds
+        ensures { BlankFinds result }
+    {
+        Finds {
+            kinds: [0; 2048],
+            found: [0; 512],
+            heights: [0; 512],
+            parents: [0; 512],
+        }
+    }
+
+    // Nothing is used, and nothing found.
+    fn clear(&mut self)
+        ensures { Cleared self.new }
+    {
+        self.kinds = [Kind::UNUSED; 2048];
+        self.found = [0; 512];
+        self.heights = [0; 512];
+        self.parents = [0; 512];
+    }
+}
+
+// The search of a network, written over what is lent. (Lent and not handed out: it goes up through four functions, and each would copy it.)
+pub fn explore(vertices: usize, ends: &[u16], finds: &mut Finds) -> Result<(), Refusal>
+    ensures { Explored vertices ends.now (search_in finds.new result) }
 {
     network::sift(vertices, ends)?;
-    settle(vertices, ends)
+    settle(vertices, ends, finds)
 }
 
 // What a network is refused for, whoever asks.
 pub fn fault(vertices: usize, ends: &[u16]) -> Result<(), Refusal>
     ensures { Faulted vertices ends.now (number_of result) }
 {
-    explore(vertices, ends)?;
-    Ok(())
+    let mut finds = Finds::blank();
+    explore(vertices, ends, &mut finds)
 }
 
 // The whole search from vertex 0, which is refused where a vertex was not found.
-fn settle(vertices: usize, ends: &[u16]) -> Result<Finds, Refusal>
+fn settle(vertices: usize, ends: &[u16], finds: &mut Finds) -> Result<(), Refusal>
     requires { Fit (network vertices ends.now) }
-    ensures { Ended (network vertices ends.now) (search_in result) }
+    ensures { Ended (network vertices ends.now) (search_in finds.new result) }
 {
-    let chains = chains::chain(ends);
-    let mut finds = Finds {
-        kinds: [Kind::UNUSED; 2048],
-        found: [0; 512],
-        heights: [0; 512],
-        parents: [0; 512],
+    let none = ends.len() as u16;
+    let mut chains = Chains {
+        heads: [none; 512],
+        nexts: [none; 4096],
     };
+    chains::chain(ends, &mut chains);
+    finds.clear();
     finds.found[0] = 1;
-    visits::visit(0, ends, &chains, &mut finds);
+    visits::visit(0, ends, &chains, finds);
     if all_found(vertices, &finds.found) {
-        Ok(finds)
+        Ok(())
     } else {
         Err(Refusal::Apart)
     }

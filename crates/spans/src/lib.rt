@@ -3,7 +3,7 @@
 
 ghost use Rattle.std.specs.Prelude.{cond, ◌≡◌, ◌+◌, ◌<◌};
 ghost use Rattle.laws.specs.Lists.{at};
-ghost use Rattle.laws.specs.Chains.{Chainable, Chained};
+ghost use Rattle.laws.specs.Chains.{Chainable, Unchained, Chained};
 ghost use Rattle.tree.specs.Tree.{Tree};
 ghost use Rattle.spans.specs.Inside.{Spannable, Spanned, Lowerable, Lowered};
 
@@ -54,11 +54,12 @@ pub fn choose(test: bool, x: u16, y: u16) -> u16
 
 // The back lines chained by their ends, from the last line down, so that each goes before what its chain had. (The tree lines have a chain too: nobody
 // goes along it.)
-pub fn chain(lines: usize, forks: &Forks) -> Chains<513, 2048>
-    requires { Chainable 513 2048 lines (at forks.now.stop) }
-    ensures { Chained 513 2048 lines (at forks.now.stop) result.heads result.nexts }
+pub fn chain(lines: usize, forks: &Forks, chains: &mut Chains<513, 2048>)
+    requires chainable { Chainable 513 2048 lines (at forks.now.stop) }
+    requires unchained { Unchained 513 2048 lines chains.old.heads chains.old.nexts }
+    ensures { Chained 513 2048 lines (at forks.now.stop) chains.new.heads chains.new.nexts }
 {
-    Chains::by(lines, |k| forks.stop[k] as usize)
+    chains.by(lines, |k| forks.stop[k] as usize);
 }
 
 // The vertex below each.

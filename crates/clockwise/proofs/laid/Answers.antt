@@ -3,7 +3,7 @@ use Rattle.clockwise.proofs.Spreading.{laying_start, laying_begins, laying_sprea
 use Rattle.clockwise.proofs.laid.Goals as goal
 
 pub loop-v-init : goal.loop-v-init
-loop-v-init c = laying_start c.requires c.empty-order.ensures
+loop-v-init c = laying_start c.requires.layable c.requires.long
 
 pub begun-requires : goal.begun-requires
 begun-requires c = search laying_begins
@@ -12,4 +12,4 @@ pub spread-requires : goal.spread-requires
 spread-requires c = search laying_spreads
 
 pub loop-v-preserved : goal.loop-v-preserved
-loop-v-preserved c = laying_more c.requires c.loop-v.invariant c.loop-v-test.true c.begun.ensures c.spread.ensures
+loop-v-preserved c = laying_more c.requires.layable c.loop-v.invariant c.loop-v-test.true c.begun.ensures c.spread.ensures

@@ -8,19 +8,19 @@ walk-requires g c =
     record {
       tree = g.S;
       found = [];
-      asked = order_sets_out c.requires c.fanned-out.ensures c.raised-uppers.ensures c.empty-groups.ensures;
+      asked = order_sets_out c.requires.0 c.fanned.ensures c.raised.ensures c.empty-groups.ensures;
     }
 
 pub laid-requires : goal.laid-requires
 laid-requires g c =
-    let p = c.requires in
-    let f = c.fanned-out.ensures in
-    let u = c.raised-uppers.ensures in
-    order_layable p f u (c.walk.ensures g.S [] (order_sets_out p f u c.empty-groups.ensures))
+    let p = c.requires.0 in
+    let f = c.fanned.ensures in
+    let u = c.raised.ensures in
+    record { layable = order_layable p f u (c.walk.ensures g.S [] (order_sets_out p f u c.empty-groups.ensures)); long = c.requires.1 }
 
 pub returns : goal.returns
 returns g c =
-    let p = c.requires in
-    let f = c.fanned-out.ensures in
-    let u = c.raised-uppers.ensures in
+    let p = c.requires.0 in
+    let f = c.fanned.ensures in
+    let u = c.raised.ensures in
     order_done p f u (c.walk.ensures g.S [] (order_sets_out p f u c.empty-groups.ensures)) c.laid.ensures
