@@ -40,8 +40,8 @@
  * Whatever else is wrong with what is lent is answered with a number. Nothing is read or written behind a
  * pointer whose length is 0, so NULL will do for it: a lone vertex has no list of ends and no choice.
  *
- * A call takes less than three quarters of a megabyte of stack: 697,680 bytes at most were measured (with kit
- * rattle-kit-13f), for draw on a path through 512 vertices. A good third of that is a table of all pairs of
+ * A call takes less than half a megabyte of stack: 436,768 bytes at most were measured (with kit
+ * rattle-kit-13f), for draw on a path through 512 vertices. More than half of that is a table of all pairs of
  * vertices. A thread that was given a small stack should have one megabyte.
  *
  *
@@ -86,8 +86,8 @@ extern "C" {
 
 #define CORNETARIEL_VERSION_MAJOR 2
 #define CORNETARIEL_VERSION_MINOR 0
-#define CORNETARIEL_VERSION_PATCH 0
-#define CORNETARIEL_VERSION "2.0.0"
+#define CORNETARIEL_VERSION_PATCH 1
+#define CORNETARIEL_VERSION "2.0.1"
 
 /* A network has at least one vertex and at most these many vertices and lines. It may have no lines. */
 #define CORNETARIEL_MAX_VERTICES 512
