@@ -31,7 +31,7 @@ impl Beginning {
     }
 }
 
-// Searches the network and groups its back lines, and writes over what is lent. (Lent and not handed out, which would copy it twice on its way.)
+// Searches the network and groups its back lines, in tables that are lent, so that nothing is copied on its way up.
 pub fn begin(vertices: usize, ends: &[u16], beginning: &mut Beginning) -> Result<(), Refusal>
     requires { LongForks beginning.old.forks }
     ensures { Gathers vertices ends.now beginning.new result }

@@ -20,7 +20,7 @@ pub(crate) struct Drawing {
     pub sizes: [u16; 4097],
 }
 
-// Draws where the choice is aligned, and vertices - lines + meshes is 2. (The drawing is lent and not handed out, which would copy it twice.)
+// Draws where the choice is aligned, and vertices - lines + meshes is 2. (The drawing is lent, so that it is not copied on its way up.)
 pub(crate) fn sketch(
     vertices: usize,
     ends: &[u16],

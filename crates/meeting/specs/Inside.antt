@@ -16,7 +16,7 @@ use Rattle.groups.specs.Groups.{pointed}
 use Rattle.groups.specs.declared.Groups.{Groups}
 use Rattle.links.specs.Inside.{Closed, Sound}
 
--- A tree line has been met where the column TOP of the table of forks names a line.
+-- A tree line has been met where `top` of the table of forks names a line.
 abbrev pub Met : Tree → Forks → ℕ → Type 0
 Met S forks f = TreeLine S f × (at forks.top f < S.lines)
 

@@ -83,7 +83,7 @@ impl Finds {
     }
 }
 
-// The search of a network, written over what is lent. (Lent and not handed out: it goes up through four functions, and each would copy it.)
+// The search of a network, written over what is lent. (Lent and not handed out, so that nothing is copied on its way up.)
 pub fn explore(vertices: usize, ends: &[u16], finds: &mut Finds) -> Result<(), Refusal>
     ensures { Explored vertices ends.now (search_in finds.new result) }
 {

@@ -11,14 +11,14 @@ use Rattle.fork.specs.Inside.{Finished, Kinds, Heights, Parents, LongForks, Span
 use Rattle.fork.specs.declared.Forks.{Forks}
 use Rattle.spans.specs.declared.Jumps.{Jumps}
 
--- The columns HIGH and TOP before a line is met: a back line is its own top; a tree line has 0 and the number of lines.
+-- What `high` and `top` have before a line is met: a back line is its own top; a tree line has 0 and the number of lines.
 pub record Untopped (S : Tree) (t : Forks) : Type 0 where
   pub back_highs : (b : ℕ) → BackLine S b → at t.high b ≡ end S b
   pub back_tops : (b : ℕ) → BackLine S b → at t.top b ≡ b
   pub tree_highs : (f : ℕ) → TreeLine S f → at t.high f ≡ 0
   pub tree_tops : (f : ℕ) → TreeLine S f → at t.top f ≡ S.lines
 
--- The column LOW before the bottoms are known: a back line's low is its end.
+-- What `low` has before the bottoms are known: a back line's low is its end.
 pub record Unlowed (S : Tree) (t : Forks) : Type 0 where
   pub back_lows : (b : ℕ) → BackLine S b → at t.low b ≡ end S b
 
