@@ -18,7 +18,7 @@ use Rattle.std.specs.Prelude.{Option, Some}
 use Rattle.fans.specs.declared.chains.Chains.{Chains}
 use Rattle.fans.specs.declared.rows.Row.{Row}
 use Rattle.network.specs.Inside.{Names}
-use Rattle.fans.specs.Chains.{list_in, Appended}
+use Rattle.fans.specs.Chains.{list_in, BlankRow, Appended}
 use Rattle.fans.proofs.Hanging.{chained_short, Leads, leads, Ahead, ahead, remaining, remaining_less, appended_none, appended_join}
 use Rattle.clockwise.specs.Laying.{item_in, Besides, spread_in, Spreads, first_in, Begins, lines_at, Layable, Unlaid, LongOrder}
 use Rattle.clockwise.specs.declared.Order.{Order}
@@ -116,20 +116,34 @@ module _ {n : ℕ} {parents uppers : List ℕ} {fans groups : Chains} (P : Layab
   abbrev list : ℕ → List ℕ
   list = lines_at parents uppers fans groups
 
-  pub laying_start : {order : Order} → LongOrder order → Laying n parents uppers fans groups (record { lines = order.row.lines; count = 0 }) (set order.starts 0 0) 0
-  laying_start {order} long =
+  -- over a row without lines
+  pub laying_start : {order : Row} → BlankRow order → Laying n parents uppers fans groups order (replicate 513 0) 0
+  laying_start {order} blank =
       let none : gather list (upto 0) ≡ [] = nothing in
       record {
-        order_long = long.lines;
-        starts_long = length-set order.starts 0 0 ∙ long.starts;
-        here = sym (ap length none);
-        fits = omega arith;
-        written = sym none;
-        starts_at = λ u h. let e : u ≡ 0 = omega arith in rw e (get_or-set_same order.starts 0 0 0 (omega (arith, long.starts)) ∙ sym (ap length none));
+        order_long = blank.long;
+        starts_long = length-replicate {A = ℕ} 513 0;
+        here = blank.none ∙ sym (ap length none);
+        fits = omega (arith, blank.none);
+        written = ap (λ (y : ℕ). take y order.lines) blank.none ∙ sym none;
+        starts_at = λ u h. let e : u ≡ 0 = omega arith in rw e (sym (ap length none));
       }
     where
       nothing : gather list (upto 0) ≡ []
       nothing = ap (gather list) (from_nil 0) ∙ gather_nil list
+
+  -- .. and over an order that may be full of an older one
+  pub laying_over : {order : Order} → LongOrder order → Laying n parents uppers fans groups (record { lines = order.row.lines; count = 0 }) (set order.starts 0 0) 0
+  laying_over {order} long =
+      let l = laying_start {order = record { lines = order.row.lines; count = 0 }} (record { long = long.lines; none = refl }) in
+      record {
+        order_long = l.order_long;
+        starts_long = length-set order.starts 0 0 ∙ long.starts;
+        here = l.here;
+        fits = l.fits;
+        written = l.written;
+        starts_at = λ u h. let e : u ≡ 0 = omega arith in rw e (get_or-set_same order.starts 0 0 0 (omega (arith, long.starts)) ∙ l.starts_at 0 (omega arith));
+      }
 
   module _ {order : Row} {starts : List ℕ} {v : ℕ} (G : Laying n parents uppers fans groups order starts v) (h : v < n) where
     space : length (gather list (upto v)) + length (list v) ≤ 4096

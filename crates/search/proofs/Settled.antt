@@ -81,5 +81,6 @@ module _ (n : ℕ) (ends : List ℕ) (fit : Fit (network n ends)) where
             let e = ended in rw e refl,
           )
 
-      pub settle_apart : (b : Bool) → b ≡ everyone n fs → b ≡ false → Ended net (search_of 6 ks hs ps)
+      -- with 6 nothing is said of the tables, and so it holds of any
+      pub settle_apart : (b : Bool) → b ≡ everyone n fs → b ≡ false → {ks' hs' ps' : List ℕ} → Ended net (search_of 6 ks' hs' ps')
       settle_apart b is f = inr (connected_no net fit (ap (λ (u : State). everyone n u.found) ended ∙ sym is ∙ f), refl)

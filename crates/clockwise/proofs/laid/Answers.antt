@@ -1,9 +1,9 @@
 -- The vertices below v are done.
-use Rattle.clockwise.proofs.Spreading.{laying_start, laying_begins, laying_spreads, laying_more}
+use Rattle.clockwise.proofs.Spreading.{laying_over, laying_begins, laying_spreads, laying_more}
 use Rattle.clockwise.proofs.laid.Goals as goal
 
 pub loop-v-init : goal.loop-v-init
-loop-v-init c = laying_start c.requires.layable c.requires.long
+loop-v-init c = laying_over c.requires.layable c.requires.long
 
 pub begun-requires : goal.begun-requires
 begun-requires c = search laying_begins

@@ -21,7 +21,7 @@ sketch-requires c = record {
 }
 
 pub hand_out-requires : goal.hand_out-requires
-hand_out-requires c = draw_settling _ _ _ _ _ _ c.if-is_odd.ensures c.if-is_cramped.ensures c.in_ok-sketch.ensures
+hand_out-requires c = draw_settling _ _ _ _ _ _ c.if-is_cramped.ensures c.in_ok-sketch.ensures
 
 pub returns-in_err-sketch : goal.returns-in_err-sketch
 returns-in_err-sketch c =
