@@ -83,6 +83,7 @@ module _ (n : ℕ) (ends choice order mesh sizes : List ℕ) where
         → Draw n ends choice order mesh sizes (refused 3) order mesh sizes
     draw_cramped t = draw_3 (either_second (odd (length ends)) short (sym t))
 
+  -- what stands behind the checks of the network
   abbrev Inside : ℕ → ℕ → List ℕ → List ℕ → List ℕ → Type 0
   Inside number count all meshes each =
       Check (Proper (tree_in net) (at choice)) (Check (Balanced net choice) ((number ≡ 0) × Drawn (tree_in net) n ends choice all count meshes each) (number ≡ 10)) (number ≡ 8)
@@ -99,22 +100,22 @@ module _ (n : ℕ) (ends choice order mesh sizes : List ℕ) where
         go few (inr (p, u)) = absurd (omega arith)
 
   -- the buffers are long enough
-  module _ (room : false ≡ cramped_draw (length ends / 2) (length choice) (length order) (length mesh) (length sizes)) where
-    module _ {count : ℕ} {all meshes each : List ℕ} (x : Sketched n ends choice 0 count all meshes each) where
-      pub draw_settling : Settling (length ends / 2) count all meshes each order mesh sizes
-      draw_settling =
-          let rooms = roomy m (length choice) (length order) (length mesh) (length sizes) (sym room) in
-          let D = (found x).3 in
-          record {
-            few_lines = (found x).0;
-            few_meshes = D.count_few;
-            all_long = D.order_long;
-            meshes_long = D.mesh_long;
-            each_long = D.sizes_long;
-            order_room = rooms.for_order;
-            mesh_room = rooms.for_mesh;
-            sizes_room = rooms.for_sizes;
-          }
+  module _ (room : false ≡ cramped_draw (length ends / 2) (length choice) (length order) (length mesh) (length sizes))
+      {count : ℕ} {all meshes each : List ℕ} (x : Sketched n ends choice 0 count all meshes each) where
+    pub draw_settling : Settling (length ends / 2) count all meshes each order mesh sizes
+    draw_settling =
+        let rooms = roomy m (length choice) (length order) (length mesh) (length sizes) (sym room) in
+        let (few, _, _, D) = found x in
+        record {
+          few_lines = few;
+          few_meshes = D.count_few;
+          all_long = D.order_long;
+          meshes_long = D.mesh_long;
+          each_long = D.sizes_long;
+          order_room = rooms.for_order;
+          mesh_room = rooms.for_mesh;
+          sizes_room = rooms.for_sizes;
+        }
 
   -- .. and nothing is odd
   module _ (even : false ≡ odd (length ends)) (room : false ≡ cramped_draw (length ends / 2) (length choice) (length order) (length mesh) (length sizes)) where
@@ -148,14 +149,14 @@ module _ (n : ℕ) (ends choice order mesh sizes : List ℕ) where
       pub draw_done : {order' mesh' sizes' : List ℕ} → Wrote (length ends / 2) count all meshes each order mesh sizes order' mesh' sizes'
           → Draw n ends choice order mesh sizes (done count 0) order' mesh' sizes'
       draw_done {order'} {mesh'} {sizes'} w =
-          let D = (found x).3 in
+          let (_, proper, balanced, D) = found x in
           let as_many : count ≡ meshes_in net choice = D.count_is in
           refuse_rest n ends short (Nothing (done count 0) order' mesh' sizes') (Granted (done count 0) order' mesh' sizes') enough x
           (λ k some (u : 0 ≡ k). absurd (omega arith))
           (λ _. inl (
-            (found x).1,
+            proper,
             inl (
-              (found x).2,
+              balanced,
               record {
                 answers = ap (λ (k : ℕ). done k 0) as_many;
                 the_order = w.order_laid ∙ laid_as (2 * m) all _ order D.order_is;

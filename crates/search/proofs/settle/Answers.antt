@@ -1,7 +1,6 @@
 -- `settle` runs the machine to its end, and says whether every vertex was found.
 use Rattle.laws.proofs.Chaining.{filled_unchained}
 use Rattle.search.proofs.Settled.{settle_halves, settle_some, settle_found, settle_apart}
-use borrow.Author.Rules.{rules}
 use Rattle.search.proofs.settle.Goals as goal
 
 pub chain-requires : goal.chain-requires
